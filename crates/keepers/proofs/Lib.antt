@@ -1,0 +1,4 @@
+pub mod Counts
+pub mod Looks
+pub mod Verdicts
+pub mod Fixes

@@ -1,0 +1,5 @@
+pub mod Kept
+pub mod Lists
+pub mod Look
+pub mod Memory
+pub mod Fixed
