@@ -45,6 +45,15 @@ held-at m m′ e t d le lt same here =
     (λ f ne. sum-same _ _ (2 ^ 32) (λ u l. ap one-if (same f u (λ p q. ne p))))
     (sum-at _ _ (2 ^ 32) t d lt (λ u ne. ap one-if (same e u (λ p q. ne q))) here)
 
+-- two sets that agree at one entry and time, and elsewhere
+pub same-set : (m m′ : Kept) (e t : ℕ) → m e t ≡ m′ e t → ((f u : ℕ) → (f ≡ e → u ≡ t → ⊥) → m f u ≡ m′ f u) → m ≡ m′
+same-set m m′ e t here other = fun-ext λ f. fun-ext λ u. by f u (cases-eq f e) (cases-eq u t)
+  where
+    by : (f u : ℕ) → (f ≡ e) ⊎ (f ≡ e → ⊥) → (u ≡ t) ⊎ (u ≡ t → ⊥) → m f u ≡ m′ f u
+    by f u (inl x) (inl y) = rw (x, y) here
+    by f u (inl x) (inr ny) = other f u (λ _ y. ny y)
+    by f u (inr nx) y = other f u (λ x _. nx x)
+
 module _ (m : Kept) (e t : ℕ) where
   pub with-here : (c : Card) → with-card m e t c e t ≡ Some c
   with-here c = let a : eqb e e ≡ true = eq-eqb e e refl in let b : eqb t t ≡ true = eq-eqb t t refl in rw (a, b)
@@ -72,12 +81,7 @@ module _ (m : Kept) (e t : ℕ) where
 
   -- a version that is not there is not missed
   pub without-none : m e t ≡ None → m ≡ without m e t
-  without-none free = fun-ext λ d. fun-ext λ u. by d u (cases-eq d e) (cases-eq u t)
-    where
-      by : (d u : ℕ) → (d ≡ e) ⊎ (d ≡ e → ⊥) → (u ≡ t) ⊎ (u ≡ t → ⊥) → m d u ≡ without m e t d u
-      by d u (inl x) (inl y) = rw (x, y) (free ∙ sym without-here)
-      by d u (inl x) (inr ny) = sym (without-other d u (λ _ y. ny y))
-      by d u (inr nx) y = sym (without-other d u (λ x _. nx x))
+  without-none free = same-set m (without m e t) e t (free ∙ sym without-here) (λ f u ne. sym (without-other f u ne))
 
   pub held-more : (c : Card) → e < 1024 → t < 2 ^ 32 → m e t ≡ None → held-in (with-card m e t c) ≡ held-in m + 1
   held-more c le lt free = held-at (with-card m e t c) m e t 1 le lt (with-other c) (let a = with-here c in rw (a, free))

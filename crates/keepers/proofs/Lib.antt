@@ -1,4 +1,8 @@
 pub mod Counts
-pub mod Looks
-pub mod Verdicts
 pub mod Fixes
+pub mod Looks
+pub mod RollAdds
+pub mod RollGaps
+pub mod RollLooks
+pub mod RollProps
+pub mod Verdicts

@@ -1,7 +1,7 @@
 -- What versions that stand in a list mean together.
 use mathlib.Core.Path.{_≡_, refl, sym, ap, _∙_}
 use mathlib.Core.Bool.{Bool, true, false, cond}
-use mathlib.Core.List.{List, [], _∷_}
+use mathlib.Core.List.{List, [], _∷_, _++_}
 use Prim.Native.Nat.{ℕ, zero, suc, _+_, _<_}
 use native.Mathlib.Omega.{arith}
 use lib.Dec.{eqb}
@@ -57,3 +57,16 @@ module _ {X : Type 0} (f : X → Version) (d : X) where
   filled-in [] p z h = absurd (omega arith)
   filled-in (x ∷ xs) zero z h = omega arith
   filled-in (x ∷ xs) (suc p) z h = let r = filled-in xs p z h in omega arith
+
+pub or-else-none : (o : Option Card) → or-else o None ≡ o
+or-else-none None = refl
+or-else-none (Some c) = refl
+
+-- one list after another
+pub look-append : {X : Type 0} (f : X → Version) (xs ys : List X) (e t : ℕ) → look f (xs ++ ys) e t ≡ or-else (look f xs e t) (look f ys e t)
+look-append f [] ys e t = refl
+look-append f (x ∷ xs) ys e t = ap (or-else (holds (f x) e t)) (look-append f xs ys e t) ∙ joined (holds (f x) e t)
+  where
+    joined : (o : Option Card) → or-else o (or-else (look f xs e t) (look f ys e t)) ≡ or-else (or-else o (look f xs e t)) (look f ys e t)
+    joined None = refl
+    joined (Some c) = refl

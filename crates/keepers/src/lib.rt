@@ -1,6 +1,8 @@
 // Where versions are held: what a keeper promises, the one search, and two keepers.
+pub mod draft;
 pub mod keeper;
 pub mod memory;
+pub mod roll;
 pub mod search;
 pub mod theorems;
 pub mod version;

@@ -1,6 +1,4 @@
 // The one search, over every list whose items bear an entry number.
-use crate::version::Draft;
-use crate::version::Version;
 ghost use mathlib.Core.Path.{_≡_};
 ghost use Prim.Native.Nat.{ℕ, _≤_};
 ghost use Rattle.keepers.specs.Lists.{Last};
@@ -29,34 +27,6 @@ pub impl BearsEntry for u16 as NumberBears {
 
     fn time(&self) -> u32 {
         0
-    }
-}
-
-pub impl BearsEntry for Draft as DraftBears {
-    ghost entryOf = { λ d. d .entry };
-
-    ghost timeOf = { λ _. 0 };
-
-    fn entry(&self) -> u16 {
-        self.entry
-    }
-
-    fn time(&self) -> u32 {
-        0
-    }
-}
-
-pub impl BearsEntry for Version as VersionBears {
-    ghost entryOf = { λ v. v .entry };
-
-    ghost timeOf = { λ v. v .time };
-
-    fn entry(&self) -> u16 {
-        self.entry
-    }
-
-    fn time(&self) -> u32 {
-        self.time
     }
 }
 

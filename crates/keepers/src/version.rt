@@ -1,10 +1,10 @@
-// What is held, and what is to be held.
+// A version: the card that an entry has from a time on.
+use crate::search::BearsEntry;
 use cards::card::Card;
 use cards::card::CardDebug;
 use cards::card::CardEq;
 use cards::card::CardPartialEq;
 
-// A version: the card that an entry has from a time on.
 #[derive(Clone, Copy, PartialEq, Eq, Debug)]
 pub struct Version {
     pub entry: u16,
@@ -12,9 +12,16 @@ pub struct Version {
     pub card: Card,
 }
 
-// A draft: a card for an entry that has no time yet.
-#[derive(Clone, Copy, PartialEq, Eq, Debug)]
-pub struct Draft {
-    pub entry: u16,
-    pub card: Card,
+pub impl BearsEntry for Version as VersionBears {
+    ghost entryOf = { λ v. v .entry };
+
+    ghost timeOf = { λ v. v .time };
+
+    fn entry(&self) -> u16 {
+        self.entry
+    }
+
+    fn time(&self) -> u32 {
+        self.time
+    }
 }
