@@ -1,6 +1,8 @@
 pub mod Arrivals
+pub mod Chain
 pub mod Fixed
 pub mod Kept
+pub mod LinkedView
 pub mod Lists
 pub mod Look
 pub mod Memory
