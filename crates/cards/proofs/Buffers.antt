@@ -1,9 +1,9 @@
 -- Bytes written one after the other into a buffer.
-use mathlib.Core.Path.{_≡_, refl, sym, ap, _∙_}
+use mathlib.Core.Path.{_≡_, ap, _∙_}
 use mathlib.Core.List.{List, [], _∷_, _++_}
 use Prim.Native.Nat.{ℕ, _+_, _<_, _≤_}
 use native.Mathlib.Omega.{arith}
-use lib.ListN.{length, getD, set, take, drop}
+use lib.ListN.{length, set, take, drop}
 use Rattle.std.proofs.shelf.Lists.{take-more-set, drop-set-lt, length-set, append-assoc}
 
 -- two bytes written at i and i + 1: what stands up to them, and what stands behind

@@ -1,6 +1,6 @@
 -- A packed card by its fields, and that it is known by its bytes.
 use mathlib.Core.Path.{_≡_, refl, sym, ap, _∙_}
-use mathlib.Core.Bool.{Bool, true, false, cond}
+use mathlib.Core.Bool.{true, false}
 use mathlib.Core.List.{List, [], _∷_, _++_}
 use Prim.Native.Nat.{ℕ, _+_, _*_, _/_, _%_, _<_, _≤_}
 use native.Mathlib.Nat.{div-div-eq-div-mul}
@@ -16,8 +16,8 @@ use Rattle.std.proofs.shelf.Tests.{true≢false, false≢true, eq-eqb, ne-eqb, 
 use Rattle.std.specs.Options.{isSome}
 use Rattle.std.specs.declared.option.Option.{Option}
 use Rattle.std.specs.declared.option.Option.the-variants.{Some, None}
-use Rattle.cards.specs.Cards.{bit, map-of, value, numbers, Fit, Fits}
-use Rattle.cards.specs.Packed.{two-bytes, standing, packed, bits-set, field-bytes, unpack-refusal}
+use Rattle.cards.specs.Cards.{bit, map-of, value, Fit, Fits}
+use Rattle.cards.specs.Packed.{standing, packed, bits-set, field-bytes, unpack-refusal}
 use Rattle.cards.specs.declared.card.Card.{Card}
 use Rattle.cards.specs.declared.refusal.Refusal.{Refusal}
 

@@ -2,7 +2,7 @@
 use mathlib.Core.Path.{_≡_, refl, sym, ap, _∙_}
 use mathlib.Core.Bool.{Bool, true, false, cond}
 use mathlib.Core.Logic.{_⊎_, inl, inr}
-use Prim.Native.Nat.{ℕ, zero, suc, _+_, _^_, _<_, _≤_}
+use Prim.Native.Nat.{ℕ, zero, suc, _^_, _<_, _≤_}
 use native.Mathlib.Omega.{arith}
 use native.Mathlib.Nat.{not-suc-le-zero}
 use Rattle.std.proofs.shelf.Tests.{cases-eq, cases-lt}
@@ -11,7 +11,7 @@ use Rattle.std.specs.declared.option.Option.{Option}
 use Rattle.std.specs.declared.option.Option.the-variants.{Some, None}
 use Rattle.cards.specs.declared.card.Card.{Card}
 use Rattle.keepers.specs.Fixed.{Find-fixed, After-fixed, Above-all, Order-words}
-use Rattle.keepers.specs.Kept.{Kept, Newest, Follows, last-below, newest-time}
+use Rattle.keepers.specs.Kept.{Newest, last-below, newest-time}
 use Rattle.keepers.specs.declared.version.Version.{Version}
 
 -- something is not nothing

@@ -1,15 +1,4 @@
-pub mod ChainAdds
-pub mod ChainCuts
-pub mod ChainEdits
-pub mod ChainNews
-pub mod ChainProps
-pub mod Chains
 pub mod Counts
 pub mod Fixes
-pub mod LinkedFacts
 pub mod Looks
-pub mod RollAdds
-pub mod RollGaps
-pub mod RollLooks
-pub mod RollProps
 pub mod Verdicts

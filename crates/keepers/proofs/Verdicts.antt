@@ -1,17 +1,15 @@
 -- The newest time of an entry, and what add answers.
-use mathlib.Core.Path.{_≡_, refl, sym, ap, _∙_}
-use mathlib.Core.Bool.{Bool, true, false, cond}
-use mathlib.Core.Logic.{_≢_, _⊎_, inl, inr}
-use Prim.Native.Nat.{ℕ, zero, suc, _+_, _^_, _<_, _≤_}
+use mathlib.Core.Path.{_≡_, refl, sym}
+use mathlib.Core.Bool.{true}
+use mathlib.Core.Logic.{inl, inr}
+use Prim.Native.Nat.{ℕ, zero, suc, _^_, _<_, _≤_}
 use native.Mathlib.Omega.{arith}
 use native.Mathlib.Nat.{not-suc-le-zero}
-use lib.Dec.{eqb, leb}
 use Rattle.std.proofs.shelf.Tests.{eq-eqb, ne-eqb, le-leb, lt-leb, cases-eq}
 use Rattle.std.specs.Options.{isSome}
 use Rattle.std.specs.declared.option.Option.{Option}
 use Rattle.std.specs.declared.option.Option.the-variants.{Some, None}
 use Rattle.cards.specs.declared.card.Card.{Card}
-use Rattle.cards.specs.declared.refusal.Refusal.{Refusal}
 use Rattle.cards.specs.declared.refusal.Refusal.the-variants.{Entry, Full, Order}
 use Rattle.keepers.specs.Kept.{Kept, room, last-below, newest-time, add-refusal}
 use Rattle.keepers.specs.declared.version.Version.{Version}

@@ -1,6 +1,6 @@
 -- What a keeper means: a set of versions and a number of places.
 use mathlib.Core.Path.{_≡_}
-use mathlib.Core.Bool.{Bool, true, cond}
+use mathlib.Core.Bool.{true, cond}
 use Prim.Native.Nat.{ℕ, zero, suc, _+_, _-_, _^_, _<_, _≤_}
 use lib.Dec.{eqb, leb}
 use Rattle.std.specs.Options.{isSome}

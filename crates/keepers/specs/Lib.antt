@@ -1,9 +1,5 @@
-pub mod Arrivals
-pub mod Chain
 pub mod Fixed
 pub mod Kept
-pub mod LinkedView
 pub mod Lists
 pub mod Look
 pub mod Memory
-pub mod RollView

@@ -1,11 +1,8 @@
-use mathlib.Core.Path.{_≡_, _∙_, ap, sym}
-use mathlib.Core.List.{List, [], _∷_, _++_}
-use Prim.Native.Nat.{ℕ, _+_, _<_, _≤_, _-_}
+use Prim.Native.Nat.{_≤_}
 use borrow.Author.Needs.{needs}
-use native.Mathlib.Omega.{arith}
-use lib.ListN.{length, getD, take, drop}
+use lib.ListN.{length}
 use mir.Syntax.{w16}
-use mir.Val.{toZ, ofZ, SFits}
+use mir.Val.{SFits}
 use Rattle.std.proofs.shelf.Lists.{take-rest}
 use Rattle.std.proofs.shelf.Signed.{toZ-ofZ}
 use Rattle.cards.proofs.Fields.{two-read}

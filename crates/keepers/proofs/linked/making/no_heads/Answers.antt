@@ -1,7 +1,0 @@
--- A list of nothing has nothing anywhere.
-use mathlib.Core.Path.{refl}
-use Rattle.keepers.proofs.ChainNews.{bare-all}
-use Rattle.keepers.proofs.linked.making.no_heads.Needs as need
-
-pub returns : need.returns
-returns c = record { bare = bare-all 1024; len = refl }

@@ -1,9 +1,0 @@
-use native.Mathlib.Omega.{arith}
-use Rattle.keepers.proofs.RollProps.{opened}
-use Rattle.keepers.proofs.roll.calls.RollKeeper.held.Needs as need
-
-pub cast-result : need.cast-result
-cast-result c = let s = opened _ _ (c .args .self .now .sound) in omega (arith, s .few)
-
-pub returns : need.returns
-returns c = let s = opened _ _ (c .args .self .now .sound) in omega (arith, s .counted)

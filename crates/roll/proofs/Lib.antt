@@ -1,0 +1,4 @@
+pub mod Adds
+pub mod Gaps
+pub mod Meanings
+pub mod Props
