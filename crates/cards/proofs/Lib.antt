@@ -1,3 +1,5 @@
-pub mod Table
 pub mod Buffers
+pub mod Counts
 pub mod Fields
+pub mod Newest
+pub mod Table

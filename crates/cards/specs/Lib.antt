@@ -1,5 +1,5 @@
-pub mod Refusals
 pub mod Cards
 pub mod Kinds
 pub mod Packed
-pub mod Worked
+pub mod Refusals
+pub mod Versions

@@ -1,6 +1,5 @@
 // The vocabulary that every part shares: the refusals, the cards and their kinds, and the packed form of a card.
 pub mod card;
-pub mod cases;
 pub mod kind;
 pub mod packing;
 pub mod refusal;

@@ -1,18 +1,19 @@
--- The newest version and the next time are each one, and the newest time bounds what is held.
+-- The newest version and the next time are each one, and what add's order test says in words.
 use mathlib.Core.Path.{_≡_, refl, sym, ap, _∙_}
-use mathlib.Core.Bool.{Bool, true, false, cond}
-use mathlib.Core.Logic.{_⊎_, inl, inr}
-use Prim.Native.Nat.{ℕ, zero, suc, _^_, _<_, _≤_}
+use mathlib.Core.Bool.{true}
+use mathlib.Core.Logic.{inl, inr}
+use Prim.Native.Nat.{ℕ, _^_, _<_}
 use native.Mathlib.Omega.{arith}
-use native.Mathlib.Nat.{not-suc-le-zero}
 use Rattle.std.proofs.shelf.Tests.{cases-eq, cases-lt}
 use Rattle.std.specs.Options.{isSome}
 use Rattle.std.specs.declared.option.Option.{Option}
 use Rattle.std.specs.declared.option.Option.the-variants.{Some, None}
+use Rattle.cards.specs.Versions.{newest-time}
 use Rattle.cards.specs.declared.card.Card.{Card}
 use Rattle.keepers.specs.Fixed.{Find-fixed, After-fixed, Above-all, Order-words}
-use Rattle.keepers.specs.Kept.{Newest, last-below, newest-time}
+use Rattle.keepers.specs.Kept.{Newest}
 use Rattle.keepers.specs.declared.version.Version.{Version}
+use Rattle.cards.proofs.Newest.{below-bounds, newest-below}
 
 -- something is not nothing
 clash : (o : Option Card) → isSome o ≡ true → o ≡ None → ⊥
@@ -47,29 +48,6 @@ after-fixed m e u (Some r) (Some s) n k =
       ])
     ])
 
--- a time that is held is no later than the last
-below-bounds : (f : ℕ → Option Card) (n u : ℕ) → u < n → isSome (f u) ≡ true → u ≤ last-below f n
-unfolding last-below
-below-bounds f zero u l some = absurd (not-suc-le-zero l)
-below-bounds f (suc n) u l some = by (λ b. below-bounds f n u b some) (isSome (f n)) refl
-  where
-    by : (u < n → u ≤ last-below f n) → (b : Bool) → isSome (f n) ≡ b → u ≤ cond b n (last-below f n)
-    by rest true e = omega arith
-    by rest false e = elim (cases-eq u n) [
-      | inl q ↦ absurd (let s : isSome (f n) ≡ true = rw q at some in let z : _≡_ {A = Bool} true false = cc in let y : _≡_ {A = ℕ} 0 1 = cc in omega arith)
-      | inr ne ↦ rest (omega (arith, ne))
-    ]
-
--- the last is held, or 0
-below-held : (f : ℕ → Option Card) (n : ℕ) → (last-below f n ≡ 0) ⊎ (isSome (f (last-below f n)) ≡ true)
-unfolding last-below
-below-held f zero = inl refl
-below-held f (suc n) = by (below-held f n) (isSome (f n)) refl
-  where
-    by : (last-below f n ≡ 0) ⊎ (isSome (f (last-below f n)) ≡ true) → (b : Bool) → isSome (f n) ≡ b → (cond b n (last-below f n) ≡ 0) ⊎ (isSome (f (cond b n (last-below f n))) ≡ true)
-    by rest true e = inr e
-    by rest false e = rest
-
 pub order-words : Order-words
 order-words m e t times = (there, back)
   where
@@ -83,4 +61,4 @@ order-words m e t times = (there, back)
     )
 
     back : Above-all m e t → newest-time m e < t
-    back a = elim (below-held (m e) (2 ^ 32)) [ inl z ↦ omega (arith, z, a .0) | inr h ↦ a .1 (newest-time m e) h ]
+    back a = newest-below m e t (a .0) (a .1)

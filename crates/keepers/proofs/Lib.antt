@@ -1,4 +1,3 @@
-pub mod Counts
 pub mod Fixes
 pub mod Looks
 pub mod Verdicts

@@ -5,7 +5,8 @@ use Prim.Native.Nat.{ℕ, _^_, _<_, _≤_}
 use Rattle.std.specs.Options.{isSome}
 use Rattle.std.specs.declared.option.Option.{Option}
 use Rattle.std.specs.declared.option.Option.the-variants.{None}
-use Rattle.keepers.specs.Kept.{Kept, Newest, Follows, newest-time}
+use Rattle.cards.specs.Versions.{Kept, newest-time}
+use Rattle.keepers.specs.Kept.{Newest, Follows}
 use Rattle.keepers.specs.declared.version.Version.{Version}
 
 -- of one set, entry and time there is one newest version

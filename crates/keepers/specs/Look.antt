@@ -8,8 +8,8 @@ use lib.ListN.{getD}
 use Rattle.std.specs.declared.option.Option.{Option}
 use Rattle.std.specs.declared.option.Option.the-variants.{Some, None}
 use Rattle.cards.specs.Cards.{blank-card}
+use Rattle.cards.specs.Versions.{Kept}
 use Rattle.cards.specs.declared.card.Card.{Card}
-use Rattle.keepers.specs.Kept.{Kept}
 use Rattle.keepers.specs.declared.version.Version.{Version}
 
 -- what a place without a version holds

@@ -7,7 +7,8 @@ ghost use Prim.Native.Nat.{ℕ, _^_, _≤_};
 ghost use Rattle.std.specs.Options.{isSome};
 ghost use Rattle.std.specs.Results.{isOk};
 ghost use Rattle.std.specs.declared.option.Option.the-variants.{None};
-ghost use Rattle.keepers.specs.Kept.{Kept, Newest, Follows, without, held-in, room, add-refusal, added, said};
+ghost use Rattle.cards.specs.Versions.{Kept, without, held-in, room};
+ghost use Rattle.keepers.specs.Kept.{Newest, Follows, add-refusal, added, said};
 
 // A keeper means a set of versions and a number of places, and no call changes that number.
 pub trait Keeper {

@@ -10,14 +10,14 @@ use Rattle.std.proofs.shelf.Tests.{cases-eq}
 use Rattle.std.specs.Of.Vec.{vec-items}
 use Rattle.std.specs.declared.option.Option.{Option}
 use Rattle.std.specs.declared.option.Option.the-variants.{Some, None}
-use Rattle.keepers.specs.Kept.{with-card, held-in}
+use Rattle.cards.specs.Versions.{with-card, held-in}
 use Rattle.keepers.specs.Look.{holds}
 use Rattle.linked.specs.Chain.{empty-place, version-of, used-places, kept-in, time-at, entry-at, next-at, below-at, time-of, Of-entry, Free, Chained, Freed, Sound}
 use Rattle.linked.specs.View.{linked-used, linked-kept}
 use Rattle.linked.specs.declared.keeper.Linked.{Linked}
 use Rattle.linked.specs.declared.place.Place.{Place}
 use Rattle.keepers.specs.declared.version.Version.{Version}
-use Rattle.keepers.proofs.Counts.{held-more, with-here, with-other, same-set}
+use Rattle.cards.proofs.Counts.{held-more, with-here, with-other, same-set}
 use Rattle.keepers.proofs.Looks.{look-some, holds-not}
 use Rattle.linked.proofs.Chains.{none-kept}
 use Rattle.linked.proofs.Facts.{sound-of}

@@ -7,11 +7,12 @@ use lib.ListN.{length, getD}
 use Rattle.std.specs.Options.{isSome}
 use Rattle.std.specs.declared.option.Option.{Option}
 use Rattle.std.specs.declared.option.Option.the-variants.{Some, None}
-use Rattle.keepers.specs.Kept.{Newest, Follows, newest-time}
+use Rattle.cards.specs.Versions.{newest-time}
+use Rattle.keepers.specs.Kept.{Newest, Follows}
 use Rattle.linked.specs.Chain.{empty-place, version-of, kept-in, time-at, next-at, time-of, Of-entry, Chained, Sound, After}
 use Rattle.linked.specs.declared.place.Place.{Place}
+use Rattle.cards.proofs.Newest.{newest-none, newest-is}
 use Rattle.keepers.proofs.Looks.{look-none, look-some, filled-in}
-use Rattle.keepers.proofs.Verdicts.{newest-none, newest-is}
 
 -- no place has it
 pub none-kept : (ps : List Place) (e t : ℕ) → ((r : ℕ) → Of-entry ps e r → time-at ps r ≡ t → ⊥) → kept-in ps e t ≡ None

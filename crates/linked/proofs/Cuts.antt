@@ -13,12 +13,12 @@ use Rattle.std.specs.Changed.{refilled}
 use Rattle.std.specs.Of.Vec.{vec-items, vec-len}
 use Rattle.std.specs.declared.option.Option.{Option}
 use Rattle.std.specs.declared.option.Option.the-variants.{Some, None}
-use Rattle.keepers.specs.Kept.{without, held-in}
+use Rattle.cards.specs.Versions.{without, held-in}
 use Rattle.linked.specs.Chain.{empty-place, free-place, version-of, used-places, kept-in, time-at, entry-at, next-at, below-at, Of-entry, Free, Chained, Freed, Sound, After, led-places, led-heads}
 use Rattle.linked.specs.View.{linked-used, linked-kept}
 use Rattle.linked.specs.declared.keeper.Linked.{Linked}
 use Rattle.linked.specs.declared.place.Place.{Place}
-use Rattle.keepers.proofs.Counts.{held-less, without-here, without-other, same-set}
+use Rattle.cards.proofs.Counts.{held-less, without-here, without-other, same-set}
 use Rattle.keepers.proofs.Looks.{holds-not}
 use Rattle.linked.proofs.Chains.{none-kept, in-places, kept-at, at-place}
 use Rattle.linked.proofs.Facts.{sound-of, chain-of}

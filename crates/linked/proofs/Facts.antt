@@ -6,8 +6,9 @@ use lib.ListN.{length, getD}
 use Rattle.std.proofs.shelf.Lists.{length-take}
 use Rattle.std.specs.Of.Vec.{vec-items}
 use Rattle.std.specs.declared.option.Option.the-variants.{Some, None}
+use Rattle.cards.specs.Versions.{held-in, room, newest-time}
 use Rattle.cards.specs.declared.refusal.Refusal.the-variants.{Full, Order}
-use Rattle.keepers.specs.Kept.{held-in, room, newest-time, add-refusal}
+use Rattle.keepers.specs.Kept.{add-refusal}
 use Rattle.keepers.specs.Memory.{most-places}
 use Rattle.linked.specs.Chain.{Chained, Sound, time-of}
 use Rattle.linked.specs.View.{linked-used, linked-kept, linked-places}

@@ -13,11 +13,11 @@ use Rattle.std.specs.declared.alloc.Global.{Global}
 use Rattle.std.specs.declared.option.Option.{Option}
 use Rattle.std.specs.declared.option.Option.the-variants.{Some, None}
 use Rattle.std.specs.declared.vec.Vec.{Vec}
-use Rattle.keepers.specs.Kept.{Empty}
+use Rattle.cards.specs.Versions.{Empty}
 use Rattle.keepers.specs.Memory.{most-places, used-of}
 use Rattle.linked.specs.Chain.{empty-place, free-place, used-places, kept-in, time-at, next-at, below-at, Of-entry, Sound, before, All-free}
 use Rattle.linked.specs.declared.place.Place.{Place}
-use Rattle.keepers.proofs.Counts.{held-none}
+use Rattle.cards.proofs.Counts.{held-none}
 use Rattle.linked.proofs.Chains.{none-kept}
 
 -- one more place made free

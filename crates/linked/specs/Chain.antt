@@ -5,7 +5,7 @@ use Prim.Native.Nat.{ℕ, zero, suc, _+_, _^_, _<_, _≤_}
 use lib.ListN.{length, getD, set, take}
 use Rattle.std.specs.declared.option.Option.{Option}
 use Rattle.std.specs.declared.option.Option.the-variants.{Some, None}
-use Rattle.keepers.specs.Kept.{Kept, held-in}
+use Rattle.cards.specs.Versions.{Kept, held-in}
 use Rattle.keepers.specs.Look.{no-version, look, Of}
 use Rattle.keepers.specs.Memory.{most-places}
 use Rattle.linked.specs.declared.place.Place.{Place}

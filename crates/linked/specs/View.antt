@@ -4,7 +4,7 @@ use Prim.Native.Nat.{ℕ}
 use Rattle.std.specs.Of.Vec.{vec-items, vec-len}
 use Rattle.std.specs.declared.alloc.Global.{Global}
 use Rattle.std.specs.declared.vec.Vec.{Vec}
-use Rattle.keepers.specs.Kept.{Kept}
+use Rattle.cards.specs.Versions.{Kept}
 use Rattle.keepers.specs.Memory.{used-of}
 use Rattle.linked.specs.Chain.{used-places, kept-in}
 use Rattle.linked.specs.declared.keeper.Linked.{Linked}

@@ -7,7 +7,7 @@ ghost use Prim.Native.Nat.{ℕ, _≤_};
 ghost use lib.ListN.{length, getD, drop};
 ghost use Rattle.std.specs.Of.Vec.{vec-items, vec-len};
 ghost use Rattle.std.specs.declared.option.Option.the-variants.{None};
-ghost use Rattle.keepers.specs.Kept.{Empty};
+ghost use Rattle.cards.specs.Versions.{Empty};
 ghost use Rattle.keepers.specs.Memory.{most-places, used-of};
 ghost use Rattle.linked.specs.Chain.{All-free, before};
 ghost use Rattle.linked.specs.View.{linked-kept, linked-places, linked-memory};

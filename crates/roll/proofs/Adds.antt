@@ -9,15 +9,16 @@ use Rattle.std.proofs.shelf.Lists.{length-push, length-set, getD-append-left, g
 use Rattle.std.proofs.shelf.Tests.{cases-lt}
 use Rattle.std.specs.declared.option.Option.{Option}
 use Rattle.std.specs.declared.option.Option.the-variants.{Some, None}
+use Rattle.cards.specs.Versions.{Kept, with-card, room, newest-time}
 use Rattle.cards.specs.declared.card.Card.{Card}
 use Rattle.cards.specs.declared.refusal.Refusal.the-variants.{Order}
 use Rattle.roll.specs.Arrivals.{Proper, Arrived, Rolled}
-use Rattle.keepers.specs.Kept.{Kept, Newest, with-card, room, newest-time, add-refusal}
+use Rattle.keepers.specs.Kept.{Newest, add-refusal}
 use Rattle.keepers.specs.Look.{no-version, holds, or-else, look}
 use Rattle.keepers.specs.Memory.{used-of}
 use Rattle.roll.specs.View.{time-of}
 use Rattle.keepers.specs.declared.version.Version.{Version}
-use Rattle.keepers.proofs.Counts.{same-set, with-here, with-other, held-more, held-none}
+use Rattle.cards.proofs.Counts.{same-set, with-here, with-other, held-more, held-none}
 use Rattle.keepers.proofs.Looks.{look-append, or-else-none, holds-here, holds-not}
 use Rattle.roll.proofs.Meanings.{has, kept-at, past-times, newest-found}
 use Rattle.keepers.proofs.Verdicts.{refuse-order, takes}

@@ -19,11 +19,11 @@ use Rattle.std.specs.Of.Vec.{vec-items, vec-len}
 use Rattle.std.specs.Options.{isSome}
 use Rattle.std.specs.OverHeap.{Vec}
 use Rattle.std.specs.declared.option.Option.the-variants.{Some, None}
+use Rattle.cards.specs.Versions.{without}
 use Rattle.roll.specs.Arrivals.{Arrived, Rolled, closed}
-use Rattle.keepers.specs.Kept.{without}
 use Rattle.keepers.specs.Look.{no-version, or-else, look}
 use Rattle.keepers.specs.declared.version.Version.{Version}
-use Rattle.keepers.proofs.Counts.{same-set, without-here, without-other, without-none, held-less}
+use Rattle.cards.proofs.Counts.{same-set, without-here, without-other, without-none, held-less}
 use Rattle.keepers.proofs.Looks.{look-append, look-none, holds-not}
 use Rattle.roll.proofs.Meanings.{once, has, kept-at}
 

@@ -9,14 +9,15 @@ use Rattle.std.proofs.shelf.Tests.{cases-order, cases-lt}
 use Rattle.std.specs.Options.{isSome}
 use Rattle.std.specs.declared.option.Option.{Option}
 use Rattle.std.specs.declared.option.Option.the-variants.{Some, None}
+use Rattle.cards.specs.Versions.{Kept, newest-time}
 use Rattle.roll.specs.Arrivals.{Arrived}
-use Rattle.keepers.specs.Kept.{Kept, Newest, Follows, newest-time}
+use Rattle.keepers.specs.Kept.{Newest, Follows}
 use Rattle.keepers.specs.Lists.{Last}
 use Rattle.keepers.specs.Look.{no-version, look, Of}
 use Rattle.roll.specs.View.{time-of}
 use Rattle.keepers.specs.declared.version.Version.{Version}
+use Rattle.cards.proofs.Newest.{newest-none, newest-is}
 use Rattle.keepers.proofs.Looks.{look-none, look-some, filled-in}
-use Rattle.keepers.proofs.Verdicts.{newest-none, newest-is}
 
 module _ (vs : List Version) (a : Arrived vs) where
   abbrev item : ℕ → Version

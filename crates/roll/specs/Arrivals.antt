@@ -4,7 +4,7 @@ use mathlib.Core.List.{List, _++_}
 use Prim.Native.Nat.{ℕ, _-_, _^_, _<_, _≤_}
 use lib.ListN.{length, getD, take, drop}
 use Rattle.std.specs.Holes.{removed}
-use Rattle.keepers.specs.Kept.{held-in}
+use Rattle.cards.specs.Versions.{held-in}
 use Rattle.keepers.specs.Look.{no-version, look}
 use Rattle.keepers.specs.Memory.{most-places}
 use Rattle.keepers.specs.declared.version.Version.{Version}

@@ -6,7 +6,7 @@ use Rattle.std.specs.Of.Vec.{vec-items, vec-len}
 use Rattle.std.specs.OverHeap.{Vec}
 use Rattle.std.specs.declared.option.Option.{Option}
 use Rattle.std.specs.declared.option.Option.the-variants.{Some, None}
-use Rattle.keepers.specs.Kept.{Kept}
+use Rattle.cards.specs.Versions.{Kept}
 use Rattle.keepers.specs.Look.{look}
 use Rattle.keepers.specs.Memory.{used-of}
 use Rattle.roll.specs.declared.keeper.Roll.{Roll}

@@ -3,7 +3,7 @@ use crate::keeper::Roll;
 use keepers::version::Version;
 ghost use mathlib.Core.Path.{_≡_};
 ghost use Rattle.std.specs.Of.Vec.{vec-len};
-ghost use Rattle.keepers.specs.Kept.{Empty};
+ghost use Rattle.cards.specs.Versions.{Empty};
 ghost use Rattle.keepers.specs.Memory.{used-of};
 ghost use Rattle.roll.specs.View.{roll-kept, roll-places, roll-memory};
 

@@ -6,7 +6,7 @@ use borrow.Author.Needs.{needs}
 use Rattle.std.specs.Options.{isSome}
 use Rattle.std.specs.Of.Vec.{vec-items}
 use Rattle.linked.specs.declared.place.Place.{Place}
-use Rattle.keepers.proofs.Counts.{without-none}
+use Rattle.cards.proofs.Counts.{without-none}
 use Rattle.linked.proofs.Chains.{none-past, at-end, found}
 use Rattle.linked.proofs.Edits.{used-in}
 use Rattle.linked.proofs.Cuts.{before-memory, in-used, out-found, some-held, out-kept, out-sound}

@@ -1,7 +1,0 @@
-use mathlib.Core.Path.{refl}
-use Rattle.cards.specs.Packed.{standing, packed}
-use Rattle.cards.proofs.cases.worked_cases_hold.Needs as need
-
-pub returns : need.returns
-unfolding standing packed
-returns c = (refl, (refl, (refl, (refl, (refl, tt)))))

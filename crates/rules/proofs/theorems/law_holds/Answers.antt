@@ -1,0 +1,5 @@
+use Rattle.rules.proofs.Law.{law-holds}
+use Rattle.rules.proofs.theorems.law_holds.Needs as need
+
+pub returns : need.returns
+returns c = law-holds

@@ -1,0 +1,19 @@
+// The theorems of the rules, each carried by a function that has nothing to compute.
+ghost use Rattle.rules.specs.Law.{Law-holds};
+ghost use Rattle.rules.specs.Places.{New-stores-stand};
+ghost use Rattle.rules.specs.Worked.{Worked-cases-hold};
+
+// The law holds of every run from a new store over an empty keeper.
+pub fn law_holds()
+    ensures { λ _. ⌜ Law-holds ⌝ }
+{}
+
+// There are such stores: places less held is a room as the law wants it.
+pub fn new_stores_stand()
+    ensures { λ _. ⌜ New-stores-stand ⌝ }
+{}
+
+// The worked cases hold, as one statement over their list.
+pub fn worked_cases_hold()
+    ensures { λ _. ⌜ Worked-cases-hold ⌝ }
+{}
