@@ -11,8 +11,8 @@ use Rattle.cards.specs.declared.card.Card.{Card}
 use Rattle.cards.specs.declared.refusal.Refusal.{Refusal}
 use Rattle.cards.specs.declared.refusal.Refusal.the-variants as why
 use Rattle.rules.specs.Account.{Desk, Free, Reading, Drafting, Given, Account, account, granted, card-after}
-use Rattle.rules.specs.Runs.{Event, event, step, Reached}
-use Rattle.rules.specs.State.{State, size}
+use Rattle.rules.specs.Runs.{Event, event, step, Reached, answers, play, events}
+use Rattle.rules.specs.State.{State, size, Fresh}
 use Rattle.rules.specs.declared.answer.Answer.{Answer}
 use Rattle.rules.specs.declared.answer.Answer.the-variants as answer
 use Rattle.rules.specs.declared.call.Call.{Call}
@@ -151,6 +151,10 @@ pub record Law (h : List Event) (s : State) : Type 0 where
   -- the clock never passes 1,000,000, so that stamp is declined by Clock exactly there
   pub clock-ends : s .clock ≤ 1000000
 
--- the theorem: it holds of every run from a new store over an empty keeper
+-- it holds of every state that a run from a new store over an empty keeper reaches
 abbrev pub Law-holds : Type 0
 Law-holds = (h : List Event) (s : State) → Reached h s → Law h s
+
+-- and so of every list of calls, made in their order on such a store
+abbrev pub Law-of-lists : Type 0
+Law-of-lists = (cs : List Call) (s : State) → Fresh s → Law (events [] cs (answers s cs)) (play s cs)

@@ -1,4 +1,4 @@
--- A call's answer, and what events lead to a state.
+-- One step by a call, the runs that calls make, and which events lead to which state.
 use mathlib.Core.List.{List, [], _∷_}
 use Rattle.std.specs.declared.result.Result.{Result}
 use Rattle.std.specs.declared.result.Result.the-variants.{Ok, Err}
@@ -11,16 +11,20 @@ use Rattle.rules.specs.declared.answer.Answer.the-variants as answer
 use Rattle.rules.specs.State.{State, Fresh}
 use Rattle.rules.specs.Rules.{proof, edit, read, write, lock, stamp, put, settle, dropping, ending, collect}
 
+-- a rule's answer as the store gives it
 abbrev pub answered : {X : Type 0} → (X → Answer) → Result X Refusal → Answer
 answered f (Ok x) = f x
 answered f (Err r) = answer.Declined r
 
+-- a rule's state and answer
 abbrev pub told : {X : Type 0} → (X → Answer) → State × Result X Refusal → State × Answer
 told f p = (p .0, answered f (p .1))
 
+-- granted, with nothing more to tell
 abbrev pub done : Unit {0} → Answer
 done x = answer.Done
 
+-- one call, by its rule
 abbrev pub step : State → Call → State × Answer
 step s (call.Proof k) = told answer.Number (proof s k)
 step s (call.Edit k) = told answer.Number (edit s k)
@@ -34,6 +38,7 @@ step s (call.Drop k) = told done (dropping s k)
 step s (call.End k) = told done (ending s k)
 step s (call.Collect n) = told answer.Number (collect s n)
 
+-- a call with its answer
 pub record Event : Type 0 where
   pub call : Call
   pub answer : Answer
@@ -41,11 +46,12 @@ pub record Event : Type 0 where
 abbrev pub event : Call → Answer → Event
 event c a = record { call = c; answer = a }
 
--- the newest event first
+-- the events, the newest first, that led from a new store over an empty keeper to a state
 pub data Reached : List Event → State → Type 0 where
   new : {s : State} → Fresh s → Reached [] s
   more : {h : List Event} {s : State} (c : Call) → Reached h s → Reached (record { call = c; answer = step s c .1 } ∷ h) (step s c .0)
 
+-- the answers to a list of calls, made in their order
 abbrev pub answers : State → List Call → List Answer
 answers s [] = []
 answers s (c ∷ cs) = step s c .1 ∷ answers (step s c .0) cs

@@ -1,11 +1,12 @@
 // The theorems of the rules, each carried by a function that has nothing to compute.
-ghost use Rattle.rules.specs.Law.{Law-holds};
+ghost use Rattle.rules.specs.Law.{Law-holds, Law-of-lists};
 ghost use Rattle.rules.specs.Places.{New-stores-stand};
 ghost use Rattle.rules.specs.Worked.{Worked-cases-hold};
 
-// The law holds of every run from a new store over an empty keeper.
+// The law holds of every run from a new store over an empty keeper: of every state that is reached, and of every list of calls.
 pub fn law_holds()
-    ensures { λ _. ⌜ Law-holds ⌝ }
+    ensures reached { λ _. ⌜ Law-holds ⌝ }
+    ensures lists { λ _. ⌜ Law-of-lists ⌝ }
 {}
 
 // There are such stores: places less held is a room as the law wants it.
