@@ -10,7 +10,6 @@ use Rattle.std.proofs.shelf.Tests.{cases-lt}
 use Rattle.std.specs.declared.option.Option.{Option}
 use Rattle.std.specs.declared.option.Option.the-variants.{Some, None}
 use Rattle.cards.specs.Versions.{Kept, with-card, room, newest-time}
-use Rattle.cards.specs.declared.card.Card.{Card}
 use Rattle.cards.specs.declared.refusal.Refusal.the-variants.{Order}
 use Rattle.roll.specs.Arrivals.{Proper, Arrived, Rolled}
 use Rattle.keepers.specs.Kept.{Newest, add-refusal}
@@ -18,13 +17,11 @@ use Rattle.keepers.specs.Look.{no-version, holds, or-else, look}
 use Rattle.keepers.specs.Memory.{used-of}
 use Rattle.roll.specs.View.{time-of}
 use Rattle.keepers.specs.declared.version.Version.{Version}
+use Rattle.cards.proofs.Somes.{some≢none}
 use Rattle.cards.proofs.Counts.{same-set, with-here, with-other, held-more, held-none}
 use Rattle.keepers.proofs.Looks.{look-append, or-else-none, holds-here, holds-not}
 use Rattle.roll.proofs.Meanings.{has, kept-at, past-times, newest-found}
 use Rattle.keepers.proofs.Verdicts.{refuse-order, takes}
-
-some-none : (o : Option Card) (c : Card) → o ≡ Some c → o ≡ None → ⊥
-some-none o c p q = let z : _≡_ {A = ℕ} 0 1 = cc in omega arith
 
 -- the version v comes after all of vs, and later than every one of its entry
 module _ (vs : List Version) (a : Arrived vs) (v : Version) (proper : Proper v) (late : (u : ℕ) → v .time ≤ u → look (λ w. w) vs (v .entry) u ≡ None) where
@@ -41,7 +38,7 @@ module _ (vs : List Version) (a : Arrived vs) (v : Version) (proper : Proper v) 
   earlier p l y =
       elim (cases-lt (getD vs p no-version .time) (v .time)) [
         | inl lt ↦ lt
-        | inr ge ↦ absurd (some-none _ _ (kept-at vs a (v .entry) p (has vs a (v .entry) p l y)) (late _ ge))
+        | inr ge ↦ absurd (some≢none _ _ (kept-at vs a (v .entry) p (has vs a (v .entry) p l y)) (late _ ge))
       ]
 
   arrived-more : Arrived more

@@ -18,7 +18,7 @@ use Rattle.rules.specs.declared.answer.Answer.the-variants as answer
 use Rattle.cards.specs.Versions.{without}
 use Rattle.rules.specs.Rules.{collect-next, collect-oldest}
 use Rattle.rules.specs.Runs.{Event, event, answered}
-use Rattle.rules.proofs.Drafts.{some≢none}
+use Rattle.cards.proofs.Somes.{some≢none}
 use Rattle.rules.proofs.Ready.{floor-le, floor-off}
 use Rattle.rules.proofs.Inv.{Gone}
 use Rattle.cards.proofs.Counts.{without-other}

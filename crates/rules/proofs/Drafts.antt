@@ -9,14 +9,11 @@ use lib.Dec.{eqb}
 use lib.ListN.{length, getD, set, drop}
 use Rattle.std.proofs.shelf.Tests.{cases-eq}
 use Rattle.std.proofs.shelf.Lists.{getD-set-same, getD-set-other}
-use Rattle.std.specs.declared.option.Option.{Option}
 use Rattle.std.specs.declared.option.Option.the-variants.{Some, None}
 use Rattle.cards.specs.declared.card.Card.{Card}
+use Rattle.cards.proofs.Somes.{some≢none}
 use Rattle.rules.specs.State.{Draft}
 use Rattle.rules.specs.State.{Seat, idle, look, written, unput-of, unput-all}
-
-pub some≢none : {X : Type 0} (o : Option X) (x : X) → o ≡ Some x → o ≡ None → ⊥
-some≢none o x p q = let z : _≡_ {A = ℕ} 0 1 = cc in omega arith
 
 pub look-written : (ds : List Draft) (n : ℕ) (c : Card) (m : ℕ) → look (written ds n c) m ≡ cond (eqb m n) (Some c) (look ds m)
 look-written [] n c m = refl

@@ -31,7 +31,7 @@ use Rattle.rules.specs.Account.{fed, granted, number, Desk, Free, Reading, Dra
 use Rattle.rules.proofs.Saw.{saw}
 use Rattle.rules.proofs.Fair.{Fair-proof, Fair-edit, Fair-read, Fair-stamp, Fair-put, Right-card, Declinable, Stood, Fair, Honest}
 use Rattle.rules.proofs.Latest.{card-same, card-flat}
-use Rattle.rules.proofs.Drafts.{some≢none}
+use Rattle.cards.proofs.Somes.{some≢none}
 use Rattle.rules.proofs.Ready.{ready-le}
 use Rattle.rules.proofs.Inv.{proof-card, flat, Seen, Edits, Stamps, env, unlocked-put}
 use Rattle.rules.proofs.Reseat.{all-map}

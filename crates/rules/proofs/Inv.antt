@@ -19,7 +19,8 @@ use Rattle.cards.specs.Cards.{blank-card}
 use Rattle.rules.specs.State.{Seat, idle, Row, State, size, seat, row, look, has, latest, ready, unput-all, Lawful}
 use Rattle.rules.specs.Account.{Desk, Free, Reading, Drafting, Given, Account, card-after}
 use Rattle.rules.specs.Law.{All}
-use Rattle.rules.proofs.Drafts.{some≢none, Once, look-some}
+use Rattle.cards.proofs.Somes.{some≢none}
+use Rattle.rules.proofs.Drafts.{Once, look-some}
 use Rattle.rules.proofs.Latest.{same-latest, latest-card, card-flat}
 use Rattle.rules.proofs.Ready.{Late-at, Off, ready-late}
 

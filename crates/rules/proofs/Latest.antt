@@ -12,7 +12,7 @@ use Rattle.cards.specs.declared.card.Card.{Card}
 use Rattle.cards.specs.Cards.{blank-card}
 use Rattle.rules.specs.State.{latest}
 use Rattle.rules.specs.Account.{card-after}
-use Rattle.rules.proofs.Drafts.{some≢none}
+use Rattle.cards.proofs.Somes.{some≢none}
 
 -- a within b, and b's newest in a: the same newest
 pub same-latest : (a b : ℕ → Option Card) (T : ℕ) → ((t : ℕ) (c : Card) → a t ≡ Some c → b t ≡ Some c) →

@@ -26,7 +26,8 @@ use Rattle.rules.specs.Rules.{put-draft, put-next, put-at, restaged}
 use Rattle.rules.specs.Runs.{Event, event, answered}
 use Rattle.rules.specs.Account.{account}
 use Rattle.rules.proofs.Saw.{saw}
-use Rattle.rules.proofs.Drafts.{all-set, count, unput-set, look-tail, look-drop, once-drop, some≢none, Once}
+use Rattle.cards.proofs.Somes.{some≢none}
+use Rattle.rules.proofs.Drafts.{all-set, count, unput-set, look-tail, look-drop, once-drop, Once}
 use Rattle.rules.proofs.Ready.{Off, Late, Late-at, ready-le, ready-late, ready-most}
 use Rattle.rules.proofs.Inv.{Gone, Env, Stamps, SeatAt, SeatOk, Waits-at, Waits, env}
 use Rattle.rules.proofs.Reseat.{seat-around}

@@ -13,7 +13,8 @@ use Rattle.std.specs.declared.option.Option.{Option}
 use Rattle.std.specs.declared.option.Option.the-variants.{Some, None}
 use Rattle.cards.specs.declared.card.Card.{Card}
 use Rattle.rules.specs.State.{Draft, Row, free-row, look, has, any-held, any-stale, entry-of, locked, taken, unless, freed, released}
-use Rattle.rules.proofs.Drafts.{some≢none, Once}
+use Rattle.cards.proofs.Somes.{some≢none}
+use Rattle.rules.proofs.Drafts.{Once}
 
 unless-other : (k j : ℕ) (o : Option ℕ) → (j ≡ k → ⊥) → o ≡ Some j → unless k o ≡ Some j
 unless-other k j o ne e = grind arith

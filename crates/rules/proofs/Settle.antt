@@ -21,7 +21,7 @@ use Rattle.rules.specs.Rules.{settle-at}
 use Rattle.rules.specs.Runs.{Event, event, answered}
 use Rattle.rules.specs.Account.{Desk, Free, account, settle-desk}
 use Rattle.rules.proofs.Saw.{saw}
-use Rattle.rules.proofs.Drafts.{some≢none}
+use Rattle.cards.proofs.Somes.{some≢none}
 use Rattle.rules.proofs.Inv.{Stamps, Waits-at, Clauses}
 use Rattle.rules.proofs.Reseat.{reseat}
 use Rattle.rules.proofs.Plainly.{Inv, desk-here, desk-other, at-stage}

@@ -27,7 +27,7 @@ use Rattle.rules.specs.Runs.{step, Event, answered, Reached, new, more}
 use Rattle.rules.specs.Account.{fed, granted, number, Account, account, card-after}
 use Rattle.rules.proofs.Saw.{saw}
 use Rattle.rules.specs.Law.{Shut, Quiet, is-collect, Collects, Declined, One-left}
-use Rattle.rules.proofs.Drafts.{some≢none}
+use Rattle.cards.proofs.Somes.{some≢none}
 use Rattle.rules.proofs.Ready.{Late-at, ready-le, ready-most, No-proof, floor-ready}
 use Rattle.rules.proofs.Inv.{all-put, newest-kept, SeatAt, env, newest-card}
 use Rattle.rules.proofs.Versions.{after-none, after-least}

@@ -12,7 +12,7 @@ use Rattle.std.specs.declared.option.Option.the-variants.{Some, None}
 use Rattle.cards.specs.declared.card.Card.{Card}
 use Rattle.cards.specs.Versions.{Kept, with-card, without}
 use Rattle.rules.specs.State.{sooner, after}
-use Rattle.rules.proofs.Drafts.{some≢none}
+use Rattle.cards.proofs.Somes.{some≢none}
 
 pub cases-two : (n t f u : ℕ) → ((f ≡ n) × (u ≡ t)) ⊎ (f ≡ n → u ≡ t → ⊥)
 cases-two n t f u = go (cases-eq f n) (cases-eq u t)
