@@ -58,7 +58,7 @@ impl Kind for Pair {
 
 // Whether a card has no bit that its kind may not bear.
 pub fn fits<K: Kind>(card: Card) -> bool
-    ensures { result ≡ fits_in bears (map_of card) }
+    ensures { result ≡ fits_in K.bears (map_of card) }
 {
     let map = card.map();
     map & K::bits() == map

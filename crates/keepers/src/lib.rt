@@ -1,4 +1,6 @@
 // What a keeper of versions promises, and the one search.
+#![tactic(auto)]
+
 pub mod draft;
 pub mod keeper;
 pub mod memory;

@@ -31,7 +31,7 @@ impl BearsEntry for u16 {
 
 // The last position of an entry with a time up to a stated one.
 pub fn last_match<T: BearsEntry>(items: &[T], entry: u16, up_to: u32) -> Option<usize>
-    ensures { Last (λ x. (entry_of x ≡ entry) × (time_of x ≤ up_to)) items.now result }
+    ensures { Last (λ x. (T.entry_of x ≡ entry) × (T.time_of x ≤ up_to)) items.now result }
 {
     for i in (0..items.len()).rev() {
         if items[i].entry() == entry && items[i].time() <= up_to {

@@ -1,4 +1,6 @@
 // A keeper in linked places: each entry's versions in a chain of their own, the newest first.
+#![tactic(auto)]
+
 mod calls;
 pub mod keeper;
 mod making;

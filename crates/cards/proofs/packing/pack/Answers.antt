@@ -7,8 +7,8 @@ use Rattle.cards.proofs.Buffers.{joined_back}
 use Rattle.cards.proofs.Fields.{packed_is, packed_sum, packed_length}
 use Rattle.cards.proofs.packing.pack.Goals as goal
 
-pub returns-then-out-length-of : goal.returns-then-out-length-of
-returns-then-out-length-of c =
+pub returns-then-out-length_of : goal.returns-then-out-length_of
+returns-then-out-length_of c =
     let card = c.args.card in
     let short : too_short card (length c.args.out.now) ≡ true = lt-ltb _ _ (omega (arith, packed_length card, ap (λ (m : ℕ). 1 + 2 * bits_set m) c.map-map.ensures.value)) in
     record { answer = rw short; buffer = rw short }
@@ -17,14 +17,14 @@ pub returns : goal.returns
 returns c =
     let xs = c.args.out.now in
     let card = c.args.card in
-    let n = c.put-field-at-6.result in
-    let out = c.put-field-at-6.new.out in
+    let n = c.put_field-at-6.result in
+    let out = c.put_field-at-6.new.out in
     let len : n ≡ length (packed card) = omega (arith, packed_sum card) in
     let room : too_short card (length xs) ≡ false = le-ltb _ _ (omega (arith, packed_length card, ap (λ (m : ℕ). 1 + 2 * bits_set m) c.map-map.ensures.value)) in
     let some : 0 < length xs = omega arith in
     let first : take 1 (set xs 0 c.map-map.result) ≡ map_of card ∷ [] = take_more_set xs 0 _ some ∙ ap (λ (m : ℕ). m ∷ []) c.map-map.ensures.value in
-    let front : take n out ≡ packed card = joined_back _ _ _ _ _ _ c.put-field-at-6.ensures.front c.put-field-at-5.ensures.front c.put-field-at-4.ensures.front c.put-field-at-3.ensures.front c.put-field-at-2.ensures.front c.put-field-at.ensures.front first ∙ sym (packed_is card) in
-    let rest : drop n out ≡ drop n xs = c.put-field-at-6.ensures.rest n (omega arith) ∙ c.put-field-at-5.ensures.rest n (omega arith) ∙ c.put-field-at-4.ensures.rest n (omega arith) ∙ c.put-field-at-3.ensures.rest n (omega arith) ∙ c.put-field-at-2.ensures.rest n (omega arith) ∙ c.put-field-at.ensures.rest n (omega arith) ∙ drop-set-lt n xs 0 _ (omega arith) in
+    let front : take n out ≡ packed card = joined_back _ _ _ _ _ _ c.put_field-at-6.ensures.front c.put_field-at-5.ensures.front c.put_field-at-4.ensures.front c.put_field-at-3.ensures.front c.put_field-at-2.ensures.front c.put_field-at.ensures.front first ∙ sym (packed_is card) in
+    let rest : drop n out ≡ drop n xs = c.put_field-at-6.ensures.rest n (omega arith) ∙ c.put_field-at-5.ensures.rest n (omega arith) ∙ c.put_field-at-4.ensures.rest n (omega arith) ∙ c.put_field-at-3.ensures.rest n (omega arith) ∙ c.put_field-at-2.ensures.rest n (omega arith) ∙ c.put_field-at.ensures.rest n (omega arith) ∙ drop-set-lt n xs 0 _ (omega arith) in
     record {
       answer = rw (room, len);
       buffer = rw room (sym (take-append-drop n out) ∙ ap (λ (ys : List ℕ). ys ++ drop n out) front ∙ ap (λ (ys : List ℕ). packed card ++ ys) (rest ∙ ap (λ (k : ℕ). drop k xs) len));

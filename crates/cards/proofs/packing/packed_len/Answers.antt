@@ -4,4 +4,4 @@ use Rattle.cards.proofs.Fields.{packed_length}
 use Rattle.cards.proofs.packing.packed_len.Goals as goal
 
 pub returns : goal.returns
-returns c = c.length-of.ensures ∙ ap (λ (m : ℕ). 1 + 2 * bits_set m) c.map.ensures.value ∙ sym (packed_length c.args.card)
+returns c = c.length_of.ensures ∙ ap (λ (m : ℕ). 1 + 2 * bits_set m) c.map.ensures.value ∙ sym (packed_length c.args.card)

@@ -8,7 +8,7 @@ pub returns-in-Some : goal.returns-in-Some
 returns-in-Some c =
     let is : c.args.field ≡ Some c.in-Some.n = c.in-Some.is in
     let f : SFits w16 c.in-Some.n = search rules in
-    let b : c.to-be-bytes.result ≡ field_bytes (Some c.in-Some.n) = simp to_z-of_z at c.to-be-bytes.ensures in
+    let b : c.to_be_bytes.result ≡ field_bytes (Some c.in-Some.n) = simp to_z-of_z at c.to_be_bytes.ensures in
     let fits : c.args.at + 1 < length c.args.out.now = omega (arith, rw is at c.requires) in
     record {
       end = search rules;

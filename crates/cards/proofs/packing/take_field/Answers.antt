@@ -6,10 +6,10 @@ use Rattle.cards.proofs.packing.take_field.Goals as goal
 
 pub returns-then-present : goal.returns-then-present
 returns-then-present c =
-    let f : SFits w16 c.from-be-bytes.result = search rules in
+    let f : SFits w16 c.from_be_bytes.result = search rules in
     let two : 2 ≤ length c.args.bytes.now = c.requires c.if-present.true in
     record {
-      parts = simp (to_z-of_z, take_rest) (two_read c.args.bytes.now c.from-be-bytes.result two (search rules) (search rules) c.from-be-bytes.ensures);
+      parts = simp (to_z-of_z, take_rest) (two_read c.args.bytes.now c.from_be_bytes.result two (search rules) (search rules) c.from_be_bytes.ensures);
       there = search rules;
       fit = search rules;
     }

@@ -17,12 +17,12 @@ returns-in-default c =
     let e = full c.args.self.now c.args.version c.if-version-ge1024.false c.in-default.is in
     record { answer = rw e; kept = rw e; places = refl; same = λ _. refl }
 
-pub returns-then-version-head-time : goal.returns-then-version-head-time
-returns-then-version-head-time c =
-    let e = late c.args.self.now c.args.version c.if-version-ge1024.false c.in-Some.is c.head-time.ensures (omega arith) in
+pub returns-then-version-head_time : goal.returns-then-version-head_time
+returns-then-version-head_time c =
+    let e = late c.args.self.now c.args.version c.if-version-ge1024.false c.in-Some.is c.head_time.ensures (omega arith) in
     record { answer = rw e; kept = rw e; places = refl; same = λ _. refl }
 
-pub place-at-place-requires : goal.place-at-place-requires
+pub place-at-place-requires : goal.place_at-place-requires
 place-at-place-requires c = first_in c.args.self.now _ c.in-Some.is
 
 pub index-mut-requires : goal.index-mut-requires
@@ -34,15 +34,15 @@ overflow-add-self c = omega (arith, few_places c.args.self.now)
 pub invariant-of-self : goal.invariant-of-self
 invariant-of-self c =
     let t : c.args.version.time < 2 ^ 32 = search rules in
-    (∣ placed_sound c.args.self.now c.in-Some.p c.args.version c.in-Some.is c.if-version-ge1024.false t c.head-time.ensures (omega arith) _ c.place-at-place.ensures ∣₁, tt)
+    (∣ placed_sound c.args.self.now c.in-Some.p c.args.version c.in-Some.is c.if-version-ge1024.false t c.head_time.ensures (omega arith) _ c.place_at-place.ensures ∣₁, tt)
 
 pub returns : goal.returns
 returns c =
     let t : c.args.version.time < 2 ^ 32 = search rules in
-    let e = taken c.args.self.now c.args.version c.if-version-ge1024.false c.in-Some.is c.head-time.ensures (omega arith) in
+    let e = taken c.args.self.now c.args.version c.if-version-ge1024.false c.in-Some.is c.head_time.ensures (omega arith) in
     record {
       answer = rw e;
-      kept = rw e (placed_kept c.args.self.now c.in-Some.p c.args.version c.in-Some.is c.if-version-ge1024.false t c.head-time.ensures (omega arith));
+      kept = rw e (placed_kept c.args.self.now c.in-Some.p c.args.version c.in-Some.is c.if-version-ge1024.false t c.head_time.ensures (omega arith));
       places = refl;
       same = λ never. absurd (let z : ◌≡◌ {A = ℕ} 0 1 = cc in omega arith);
     }

@@ -6,11 +6,11 @@ use Rattle.linked.proofs.calls.LinkedKeeper.find.Goals as goal
 pub returns-then-entry-ge1024 : goal.returns-then-entry-ge1024
 returns-then-entry-ge1024 c = λ u _. none_past (chain_of c.args.self.now) _ u c.if-entry-ge1024.true
 
-pub place-at-requires : goal.place-at-requires
+pub place-at-requires : goal.place_at-requires
 place-at-requires c = in_places _ _ (at_place (chain_of c.args.self.now) _ c.walk-at.ensures.after c.in-Some.is).0.0
 
 pub returns-in-Some : goal.returns-in-Some
-returns-in-Some c = found (chain_of c.args.self.now) _ _ c.walk-at.ensures.after c.in-Some.is c.place-at.ensures (c.walk-at.ensures.until _ c.in-Some.is)
+returns-in-Some c = found (chain_of c.args.self.now) _ _ c.walk-at.ensures.after c.in-Some.is c.place_at.ensures (c.walk-at.ensures.until _ c.in-Some.is)
 
 pub returns-in-None : goal.returns-in-None
 returns-in-None c = at_end (chain_of c.args.self.now) c.walk-at.ensures.after c.in-None.is c.if-entry-ge1024.false

@@ -18,19 +18,19 @@ returns-in-default c =
     let z = at_end (chain_of c.args.self.now) c.walk-before.ensures.after c.in-default.is c.if-entry-ge1024.false c.args.time (omega arith) in
     record { answer = sym (ap is_some z); kept = without_none _ _ _ z; places = refl; same = λ _. refl }
 
-pub place-at-place-requires : goal.place-at-place-requires
+pub place-at-place-requires : goal.place_at-place-requires
 place-at-place-requires c = in_used c.args.self.now c.walk-before.ensures.after _ c.in-Some.is
 
 pub returns-then-place-time : goal.returns-then-place-time
 returns-then-place-time c =
     let l = c.walk-before.ensures.until _ c.in-Some.is in
-    let z = (found (chain_of c.args.self.now) _ _ c.walk-before.ensures.after c.in-Some.is c.place-at-place.ensures l).3 c.args.time (omega (arith, c.if-place-time.true, ap (λ (x : Place). x.version.time) c.place-at-place.ensures)) (omega arith) in
+    let z = (found (chain_of c.args.self.now) _ _ c.walk-before.ensures.after c.in-Some.is c.place_at-place.ensures l).3 c.args.time (omega (arith, c.if-place-time.true, ap (λ (x : Place). x.version.time) c.place_at-place.ensures)) (omega arith) in
     record { answer = sym (ap is_some z); kept = without_none _ _ _ z; places = refl; same = λ _. refl }
 
 pub unlink-requires : goal.unlink-requires
 unlink-requires c = record {
   row = omega (arith, (chain_of c.args.self.now).heads);
-  before = before_memory c.args.self.now c.walk-before.ensures.after c.as-mut-slice.ensures.value;
+  before = before_memory c.args.self.now c.walk-before.ensures.after c.as_mut_slice.ensures.value;
 }
 
 pub index-mut-requires : goal.index-mut-requires
@@ -43,12 +43,12 @@ pub overflow-sub-self : goal.overflow-sub-self
 overflow-sub-self c = some_held c.args.self.now c.walk-before.ensures.after _ c.in-Some.is
 
 pub invariant-of-self : goal.invariant-of-self
-invariant-of-self c = (∣ out_sound c.args.self.now c.walk-before.ensures.after c.in-Some.p c.in-Some.is c.place-at-place.ensures c.if-place-time.false c.if-entry-ge1024.false c.as-mut-slice.ensures.value c.unlink.ensures.places c.unlink.ensures.heads (search rules) c.freed.ensures ∣₁, tt)
+invariant-of-self c = (∣ out_sound c.args.self.now c.walk-before.ensures.after c.in-Some.p c.in-Some.is c.place_at-place.ensures c.if-place-time.false c.if-entry-ge1024.false c.as_mut_slice.ensures.value c.unlink.ensures.places c.unlink.ensures.heads (search rules) c.freed.ensures ∣₁, tt)
 
 pub returns : goal.returns
 returns c = record {
-  answer = sym (out_found c.args.self.now c.walk-before.ensures.after c.in-Some.p c.in-Some.is c.place-at-place.ensures c.if-place-time.false);
-  kept = out_kept c.args.self.now c.walk-before.ensures.after c.in-Some.p c.in-Some.is c.place-at-place.ensures c.if-place-time.false c.if-entry-ge1024.false c.as-mut-slice.ensures.value c.unlink.ensures.places c.unlink.ensures.heads (search rules) c.freed.ensures;
+  answer = sym (out_found c.args.self.now c.walk-before.ensures.after c.in-Some.p c.in-Some.is c.place_at-place.ensures c.if-place-time.false);
+  kept = out_kept c.args.self.now c.walk-before.ensures.after c.in-Some.p c.in-Some.is c.place_at-place.ensures c.if-place-time.false c.if-entry-ge1024.false c.as_mut_slice.ensures.value c.unlink.ensures.places c.unlink.ensures.heads (search rules) c.freed.ensures;
   places = refl;
   same = λ never. absurd (let z : ◌≡◌ {A = ℕ} 0 1 = cc in omega arith);
 }

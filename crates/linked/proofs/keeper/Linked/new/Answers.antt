@@ -5,15 +5,15 @@ use Rattle.linked.proofs.keeper.Linked.new.Goals as goal
 
 pub invariant-of-result : goal.invariant-of-result
 invariant-of-result c =
-    let free = c.free-first-free in
-    (∣ made_sound c.args.memory free.new.places _ (search rules) (omega (arith, c.min-used.ensures)) free.ensures.free c.no-heads.ensures.len c.no-heads.ensures.bare free.ensures.first ∣₁, tt)
+    let free = c.free_first-free in
+    (∣ made_sound c.args.memory free.new.places _ (search rules) (omega (arith, c.min-used.ensures)) free.ensures.free c.no_heads.ensures.len c.no_heads.ensures.bare free.ensures.first ∣₁, tt)
 
 pub returns : goal.returns
 returns c =
-    let free = c.free-first-free in
+    let free = c.free_first-free in
     record {
       empty = made_empty c.args.memory free.new.places c.min-used.result (search rules) (omega (arith, c.min-used.ensures)) free.ensures.free;
       places = refl;
       length = refl;
-      rest = made_rest c.args.memory free.new.places c.min-used.result (search rules) (omega (arith, c.min-used.ensures)) free.ensures.free c.as-mut-slice.ensures.value free.ensures.rest;
+      rest = made_rest c.args.memory free.new.places c.min-used.result (search rules) (omega (arith, c.min-used.ensures)) free.ensures.free c.as_mut_slice.ensures.value free.ensures.rest;
     }

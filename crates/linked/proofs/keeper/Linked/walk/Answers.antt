@@ -4,14 +4,14 @@ use Rattle.linked.specs.Facts.{chain_of}
 use Rattle.linked.specs.Chains.{in_places, at_place, step, falls, met}
 use Rattle.linked.proofs.keeper.Linked.walk.Goals as goal
 
-pub place-at-place-requires : goal.place-at-place-requires
+pub place-at-place-requires : goal.place_at-place-requires
 place-at-place-requires c = in_places _ _ (at_place (chain_of c.args.self.now) _ c.loop-at.invariant c.in-Some.is).0.0
 
 pub loop-at-smaller : goal.loop-at-smaller
-loop-at-smaller c = falls (chain_of c.args.self.now) _ _ c.loop-at.invariant c.in-Some.is c.place-at-place.ensures
+loop-at-smaller c = falls (chain_of c.args.self.now) _ _ c.loop-at.invariant c.in-Some.is c.place_at-place.ensures
 
 pub loop-at-preserved : goal.loop-at-preserved
-loop-at-preserved c = step (chain_of c.args.self.now) _ _ c.loop-at.invariant c.in-Some.is c.place-at-place.ensures (omega arith)
+loop-at-preserved c = step (chain_of c.args.self.now) _ _ c.loop-at.invariant c.in-Some.is c.place_at-place.ensures (omega arith)
 
 pub returns-then-place-time : goal.returns-then-place-time
-returns-then-place-time c = record { after = rw c.in-Some.is at c.loop-at.invariant; until = met _ _ _ _ c.place-at-place.ensures (omega arith) }
+returns-then-place-time c = record { after = rw c.in-Some.is at c.loop-at.invariant; until = met _ _ _ _ c.place_at-place.ensures (omega arith) }

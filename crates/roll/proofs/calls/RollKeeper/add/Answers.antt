@@ -6,8 +6,8 @@ use Rattle.roll.proofs.Adds.{too_early, arrives}
 use Rattle.roll.specs.Props.{opened}
 use Rattle.roll.proofs.calls.RollKeeper.add.Goals as goal
 
-pub returns-then-version-time-of : goal.returns-then-version-time-of
-returns-then-version-time-of c =
+pub returns-then-version-time_of : goal.returns-then-version-time_of
+returns-then-version-time_of c =
     let s = opened _ _ c.args.self.now.sound in
     let why = too_early _ _ s c.args.version c.find.result c.find.ensures c.if-version-ge1024.false (vec_len c.args.self.now.places) (search rules) (omega (arith, c.spare.ensures)) (omega (arith, c.time_or_zero.ensures)) in
     record { answer = sym (ap said why); kept = sym (ap (λ o. added o (roll_kept c.args.self.now) c.args.version) why); places = refl; same = λ _. refl }

@@ -18,17 +18,17 @@ returns-then-versions-at c =
     let after = nothing_leaves _ _ c.args.entry c.args.time front.held (absent_at _ front.arrived _ _ _ c.in-Some.ensures (λ y. omega arith)) in
     record { answer = after.0; kept = after.1; places = refl; same = λ _. refl }
 
-pub close-gap-requires : goal.close-gap-requires
+pub close-gap-requires : goal.close_gap-requires
 close-gap-requires c =
     let s = opened _ _ c.args.self.now.sound in
-    record { inside = omega (arith, c.in-Some.ensures.0, c.front-versions.ensures.count); within = omega (arith, s.within, c.as-mut-slice.ensures.len) }
+    record { inside = omega (arith, c.in-Some.ensures.0, c.front-versions.ensures.count); within = omega (arith, s.within, c.as_mut_slice.ensures.len) }
 
 pub invariant-of-self : goal.invariant-of-self
 invariant-of-self c =
     let s = opened _ _ c.args.self.now.sound in
     let found = c.in-Some.ensures in
     let after = leaves _ _ s c.args.entry c.args.time c.in-Some.at _ c.front-versions.ensures.held (found.0, (found.1 no_version).0, omega arith) in
-    let is = gap_closed c.args.self.now.places _ _ c.in-Some.at c.args.self.now.held c.as-mut-slice.ensures.value c.close-gap.ensures (search rules) in
+    let is = gap_closed c.args.self.now.places _ _ c.in-Some.at c.args.self.now.held c.as_mut_slice.ensures.value c.close_gap.ensures (search rules) in
     (∣ rw is after.0 ∣₁, tt)
 
 pub returns : goal.returns
@@ -36,5 +36,5 @@ returns c =
     let s = opened _ _ c.args.self.now.sound in
     let found = c.in-Some.ensures in
     let after = leaves _ _ s c.args.entry c.args.time c.in-Some.at _ c.front-versions.ensures.held (found.0, (found.1 no_version).0, omega arith) in
-    let is = gap_closed c.args.self.now.places _ _ c.in-Some.at c.args.self.now.held c.as-mut-slice.ensures.value c.close-gap.ensures (search rules) in
+    let is = gap_closed c.args.self.now.places _ _ c.in-Some.at c.args.self.now.held c.as_mut_slice.ensures.value c.close_gap.ensures (search rules) in
     record { answer = after.1; kept = rw is after.2; places = refl; same = λ e. absurd (true≢false e) }
