@@ -12,9 +12,9 @@ returns-then-version-ge1024 c =
     let e = refuse_entry (linked_places c.args.self.now) (linked_kept c.args.self.now) c.args.version c.if-version-ge1024.true in
     record { answer = rw e; kept = rw e; places = refl; same = λ _. refl }
 
-pub returns-in-default : goal.returns-in-default
-returns-in-default c =
-    let e = full c.args.self.now c.args.version c.if-version-ge1024.false c.in-default.is in
+pub returns-in_default : goal.returns-in_default
+returns-in_default c =
+    let e = full c.args.self.now c.args.version c.if-version-ge1024.false c.in_default.is in
     record { answer = rw e; kept = rw e; places = refl; same = λ _. refl }
 
 pub returns-then-version-head_time : goal.returns-then-version-head_time
@@ -22,19 +22,19 @@ returns-then-version-head_time c =
     let e = late c.args.self.now c.args.version c.if-version-ge1024.false c.in-Some.is c.head_time.ensures (omega arith) in
     record { answer = rw e; kept = rw e; places = refl; same = λ _. refl }
 
-pub place-at-place-requires : goal.place_at-place-requires
-place-at-place-requires c = first_in c.args.self.now _ c.in-Some.is
+pub place_at-place-requires : goal.place_at-place-requires
+place_at-place-requires c = first_in c.args.self.now _ c.in-Some.is
 
-pub index-mut-requires : goal.index-mut-requires
-index-mut-requires c = omega (arith, (used_in (vec_items c.args.self.now.places) _ (first_in c.args.self.now _ c.in-Some.is)).0)
+pub index_mut-requires : goal.index_mut-requires
+index_mut-requires c = omega (arith, (used_in (vec_items c.args.self.now.places) _ (first_in c.args.self.now _ c.in-Some.is)).0)
 
-pub overflow-add-self : goal.overflow-add-self
-overflow-add-self c = omega (arith, few_places c.args.self.now)
+pub overflow_add-self : goal.overflow_add-self
+overflow_add-self c = omega (arith, few_places c.args.self.now)
 
-pub invariant-of-self : goal.invariant-of-self
-invariant-of-self c =
+pub invariant_of-self : goal.invariant_of-self
+invariant_of-self c =
     let t : c.args.version.time < 2 ^ 32 = search rules in
-    (∣ placed_sound c.args.self.now c.in-Some.p c.args.version c.in-Some.is c.if-version-ge1024.false t c.head_time.ensures (omega arith) _ c.place_at-place.ensures ∣₁, tt)
+    record { sound = ∣ placed_sound c.args.self.now c.in-Some.p c.args.version c.in-Some.is c.if-version-ge1024.false t c.head_time.ensures (omega arith) _ c.place_at-place.ensures ∣₁ }
 
 pub returns : goal.returns
 returns c =

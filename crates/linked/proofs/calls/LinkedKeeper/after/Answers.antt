@@ -6,8 +6,8 @@ use Rattle.linked.proofs.calls.LinkedKeeper.after.Goals as goal
 pub returns-then-entry-ge1024 : goal.returns-then-entry-ge1024
 returns-then-entry-ge1024 c = λ u _. none_past (chain_of c.args.self.now) _ u c.if-entry-ge1024.true
 
-pub place-at-requires : goal.place_at-requires
-place-at-requires c = in_places _ _ (c.walk-before.ensures.after.later _ c.in-Some.is).0.0
+pub place_at-requires : goal.place_at-requires
+place_at-requires c = in_places _ _ (c.walk-before.ensures.after.later _ c.in-Some.is).0.0
 
 pub returns-in-Some : goal.returns-in-Some
 returns-in-Some c = follows_some (chain_of c.args.self.now) _ _ c.walk-before.ensures.after c.walk-before.ensures.until c.in-Some.is c.place_at.ensures

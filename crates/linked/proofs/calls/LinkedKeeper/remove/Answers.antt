@@ -13,13 +13,13 @@ returns-then-entry-ge1024 c =
     let z = none_past (chain_of c.args.self.now) _ c.args.time c.if-entry-ge1024.true in
     record { answer = sym (ap is_some z); kept = without_none _ _ _ z; places = refl; same = λ _. refl }
 
-pub returns-in-default : goal.returns-in-default
-returns-in-default c =
-    let z = at_end (chain_of c.args.self.now) c.walk-before.ensures.after c.in-default.is c.if-entry-ge1024.false c.args.time (omega arith) in
+pub returns-in_default : goal.returns-in_default
+returns-in_default c =
+    let z = at_end (chain_of c.args.self.now) c.walk-before.ensures.after c.in_default.is c.if-entry-ge1024.false c.args.time (omega arith) in
     record { answer = sym (ap is_some z); kept = without_none _ _ _ z; places = refl; same = λ _. refl }
 
-pub place-at-place-requires : goal.place_at-place-requires
-place-at-place-requires c = in_used c.args.self.now c.walk-before.ensures.after _ c.in-Some.is
+pub place_at-place-requires : goal.place_at-place-requires
+place_at-place-requires c = in_used c.args.self.now c.walk-before.ensures.after _ c.in-Some.is
 
 pub returns-then-place-time : goal.returns-then-place-time
 returns-then-place-time c =
@@ -33,17 +33,17 @@ unlink-requires c = record {
   before = before_memory c.args.self.now c.walk-before.ensures.after c.as_mut_slice.ensures.value;
 }
 
-pub index-mut-requires : goal.index-mut-requires
-index-mut-requires c = omega (arith, (used_in (vec_items c.args.self.now.places) _ (in_used c.args.self.now c.walk-before.ensures.after _ c.in-Some.is)).0)
+pub index_mut-requires : goal.index_mut-requires
+index_mut-requires c = omega (arith, (used_in (vec_items c.args.self.now.places) _ (in_used c.args.self.now c.walk-before.ensures.after _ c.in-Some.is)).0)
 
-pub overflow-add-self : goal.overflow-add-self
-overflow-add-self c = omega (arith, few_places c.args.self.now)
+pub overflow_add-self : goal.overflow_add-self
+overflow_add-self c = omega (arith, few_places c.args.self.now)
 
-pub overflow-sub-self : goal.overflow-sub-self
-overflow-sub-self c = some_held c.args.self.now c.walk-before.ensures.after _ c.in-Some.is
+pub overflow_sub-self : goal.overflow_sub-self
+overflow_sub-self c = some_held c.args.self.now c.walk-before.ensures.after _ c.in-Some.is
 
-pub invariant-of-self : goal.invariant-of-self
-invariant-of-self c = (∣ out_sound c.args.self.now c.walk-before.ensures.after c.in-Some.p c.in-Some.is c.place_at-place.ensures c.if-place-time.false c.if-entry-ge1024.false c.as_mut_slice.ensures.value c.unlink.ensures.places c.unlink.ensures.heads (search rules) c.freed.ensures ∣₁, tt)
+pub invariant_of-self : goal.invariant_of-self
+invariant_of-self c = record { sound = ∣ out_sound c.args.self.now c.walk-before.ensures.after c.in-Some.p c.in-Some.is c.place_at-place.ensures c.if-place-time.false c.if-entry-ge1024.false c.as_mut_slice.ensures.value c.unlink.ensures.places c.unlink.ensures.heads (search rules) c.freed.ensures ∣₁ }
 
 pub returns : goal.returns
 returns c = record {

@@ -3,10 +3,10 @@ use Rattle.std.proofs.Common.{refl, arith, rules}
 use Rattle.linked.proofs.News.{made_empty, made_sound, made_rest}
 use Rattle.linked.proofs.keeper.Linked.new.Goals as goal
 
-pub invariant-of-result : goal.invariant-of-result
-invariant-of-result c =
+pub invariant_of-result : goal.invariant_of-result
+invariant_of-result c =
     let free = c.free_first-free in
-    (∣ made_sound c.args.memory free.new.places _ (search rules) (omega (arith, c.min-used.ensures)) free.ensures.free c.no_heads.ensures.len c.no_heads.ensures.bare free.ensures.first ∣₁, tt)
+    record { sound = ∣ made_sound c.args.memory free.new.places _ (search rules) (omega (arith, c.min-used.ensures)) free.ensures.free c.no_heads.ensures.len c.no_heads.ensures.bare free.ensures.first ∣₁ }
 
 pub returns : goal.returns
 returns c =

@@ -4,8 +4,8 @@ use Rattle.linked.specs.Facts.{chain_of}
 use Rattle.linked.specs.Chains.{in_places, at_place, step, falls, met}
 use Rattle.linked.proofs.keeper.Linked.walk.Goals as goal
 
-pub place-at-place-requires : goal.place_at-place-requires
-place-at-place-requires c = in_places _ _ (at_place (chain_of c.args.self.now) _ c.loop-at.invariant c.in-Some.is).0.0
+pub place_at-place-requires : goal.place_at-place-requires
+place_at-place-requires c = in_places _ _ (at_place (chain_of c.args.self.now) _ c.loop-at.invariant c.in-Some.is).0.0
 
 pub loop-at-smaller : goal.loop-at-smaller
 loop-at-smaller c = falls (chain_of c.args.self.now) _ _ c.loop-at.invariant c.in-Some.is c.place_at-place.ensures

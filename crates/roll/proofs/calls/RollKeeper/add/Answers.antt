@@ -9,24 +9,24 @@ use Rattle.roll.proofs.calls.RollKeeper.add.Goals as goal
 pub returns-then-version-time_of : goal.returns-then-version-time_of
 returns-then-version-time_of c =
     let s = opened _ _ c.args.self.now.sound in
-    let why = too_early _ _ s c.args.version c.find.result c.find.ensures c.if-version-ge1024.false (vec_len c.args.self.now.places) (search rules) (omega (arith, c.spare.ensures)) (omega (arith, c.time_or_zero.ensures)) in
+    let why = too_early _ _ s c.args.version c.find.result c.find.ensures c.if-version-ge1024.false (vec_len c.args.self.now.places) (search rules) (omega (arith, c.spare.ensures)) (omega (arith, c.time_of.ensures)) in
     record { answer = sym (ap said why); kept = sym (ap (λ o. added o (roll_kept c.args.self.now) c.args.version) why); places = refl; same = λ _. refl }
 
-pub index-mut-requires : goal.index-mut-requires
-index-mut-requires c = let s = opened _ _ c.args.self.now.sound in omega (arith, s.counted, c.spare.ensures)
+pub index_mut-requires : goal.index_mut-requires
+index_mut-requires c = let s = opened _ _ c.args.self.now.sound in omega (arith, s.counted, c.spare.ensures)
 
-pub overflow-add-self : goal.overflow-add-self
-overflow-add-self c = let s = opened _ _ c.args.self.now.sound in omega (arith, s.few)
+pub overflow_add-self : goal.overflow_add-self
+overflow_add-self c = let s = opened _ _ c.args.self.now.sound in omega (arith, s.few)
 
-pub invariant-of-self : goal.invariant-of-self
-invariant-of-self c =
+pub invariant_of-self : goal.invariant_of-self
+invariant_of-self c =
     let s = opened _ _ c.args.self.now.sound in
-    (∣ (arrives _ _ s c.args.version c.find.result c.find.ensures c.if-version-ge1024.false (vec_len c.args.self.now.places) (search rules) (omega (arith, c.spare.ensures)) (omega (arith, c.time_or_zero.ensures)) (search rules)).0 ∣₁, tt)
+    record { sound = ∣ (arrives _ _ s c.args.version c.find.result c.find.ensures c.if-version-ge1024.false (vec_len c.args.self.now.places) (search rules) (omega (arith, c.spare.ensures)) (omega (arith, c.time_of.ensures)) (search rules)).0 ∣₁ }
 
 pub returns : goal.returns
 returns c =
     let s = opened _ _ c.args.self.now.sound in
-    let after = arrives _ _ s c.args.version c.find.result c.find.ensures c.if-version-ge1024.false (vec_len c.args.self.now.places) (search rules) (omega (arith, c.spare.ensures)) (omega (arith, c.time_or_zero.ensures)) (search rules) in
+    let after = arrives _ _ s c.args.version c.find.result c.find.ensures c.if-version-ge1024.false (vec_len c.args.self.now.places) (search rules) (omega (arith, c.spare.ensures)) (omega (arith, c.time_of.ensures)) (search rules) in
     record {
       answer = sym (ap said after.1);
       kept = after.2 ∙ sym (ap (λ o. added o (roll_kept c.args.self.now) c.args.version) after.1);

@@ -5,8 +5,8 @@ use Rattle.roll.specs.View.{roll_front}
 use Rattle.roll.specs.Props.{opened}
 use Rattle.roll.proofs.keeper.Roll.front.Goals as goal
 
-pub slice-bounds-result-end : goal.slice-bounds-result-end
-slice-bounds-result-end c = let s = opened _ _ c.args.self.now.sound in omega (arith, s.within, c.deref.ensures.len)
+pub slice_bounds-result-end : goal.slice_bounds-result-end
+slice_bounds-result-end c = let s = opened _ _ c.args.self.now.sound in omega (arith, s.within, c.deref.ensures.len)
 
 pub returns : goal.returns
 returns c =

@@ -1,5 +1,5 @@
 use Rattle.roll.proofs.Adds.{rolled_none}
 use Rattle.roll.proofs.keeper.Roll.new.Goals as goal
 
-pub invariant-of-result : goal.invariant-of-result
-invariant-of-result c = (∣ rolled_none _ ∣₁, tt)
+pub invariant_of-result : goal.invariant_of-result
+invariant_of-result c = record { sound = ∣ rolled_none _ ∣₁ }
