@@ -1,4 +1,6 @@
 // A designer moves the anchor of a mark three times; each keeper in turn holds the cards, and every action is printed.
+#![tactic(auto)]
+
 mod shown;
 
 use cards::card::Card;
