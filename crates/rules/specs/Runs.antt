@@ -1,6 +1,5 @@
 -- One step by a call, the runs that calls make, and which events lead to which state.
 use Rattle.std.specs.Prelude.{List, [], ◌∷◌, Ok, Err, Result}
-use Rattle.cards.specs.declared.card.Card.{Card}
 use Rattle.cards.specs.declared.refusal.Refusal.{Refusal}
 use Rattle.rules.specs.declared.call.Call.{Call}
 use Rattle.rules.specs.declared.call.Call.TheVariants as call
