@@ -11,8 +11,7 @@ use Rattle.linked.specs.declared.place.Place.{Place}
 use Rattle.keepers.specs.declared.version.Version.{Version}
 use Rattle.cards.proofs.Counts.{held_more, with_here, with_other, same_set}
 use Rattle.keepers.proofs.Looks.{look_some, holds_not}
-use Rattle.linked.specs.Chains.{none_kept}
-use Rattle.linked.specs.Facts.{sound_of}
+use Rattle.linked.specs.Laws.{none_kept, sound_of}
 use Rattle.linked.proofs.Edits.{Like, time_like, entry_like, old_of, new_of, old_free, new_free, like_kept, like_set, used_written}
 
 module _ {ps : List Place} {hs : List (Option ℕ)} {f : Option ℕ} {n h : ℕ} (s : Sound ps hs f n h) (p : ℕ) (v : Version) (is : f ≡ Some p) (le : v.entry < 1024) (lt : v.time < 2 ^ 32) (late : time_or_zero ps (get_or hs v.entry None) < v.time) where

@@ -10,8 +10,8 @@ use Rattle.linked.specs.declared.keeper.Linked.{Linked}
 use Rattle.linked.specs.declared.place.Place.{Place}
 use Rattle.cards.proofs.Counts.{held_less, without_here, without_other, same_set}
 use Rattle.keepers.proofs.Looks.{holds_not}
-use Rattle.linked.specs.Chains.{none_kept, in_places, kept_at, at_place}
-use Rattle.linked.specs.Facts.{sound_of, chain_of}
+use Rattle.linked.proofs.Chains.{in_places, kept_at, at_place}
+use Rattle.linked.specs.Laws.{none_kept, sound_of, chain_of}
 use Rattle.linked.proofs.Edits.{Like, time_like, entry_like, old_of, new_of, old_free, new_free, like_kept, like_set, used_in, used_written, used_led}
 
 -- with a version less, one less is held

@@ -9,7 +9,7 @@ use Rattle.keepers.specs.Memory.{most_places, used_of}
 use Rattle.linked.specs.Chain.{empty_place, free_place, used_places, kept_in, time_at, next_at, below_at, OfEntry, Sound, before, AllFree}
 use Rattle.linked.specs.declared.place.Place.{Place}
 use Rattle.cards.proofs.Counts.{held_none}
-use Rattle.linked.specs.Chains.{none_kept}
+use Rattle.linked.specs.Laws.{none_kept}
 
 -- one more place made free
 pub all_more : (ps : List Place) (i : ℕ) (x : Place) → i < length ps → x ≡ free_place (before i) i → AllFree ps i → AllFree (set ps i x) (i + 1)

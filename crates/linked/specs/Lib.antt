@@ -1,5 +1,3 @@
 pub mod Chain
 pub mod View
-pub mod Chains
-pub mod Facts
-pub mod Props
+pub mod Laws

@@ -1,8 +1,6 @@
 // What a linked keeper does.
-ghost use Rattle.linked.specs.View.{linked_kept, linked_places, linked_used};
-ghost use Rattle.linked.specs.Chains.{none_past, none_kept};
-ghost use Rattle.linked.specs.Facts.{chain_of, sound_of, all_places};
-ghost use Rattle.std.proofs.Common.{arith};
+ghost use Rattle.linked.specs.View.{linked_kept, linked_places};
+ghost use Rattle.linked.specs.Laws.{entries_law, starts_law, times_law, fits_law};
 
 use crate::keeper::Linked;
 use crate::place::Place;
@@ -16,13 +14,13 @@ impl Keeper for Linked {
 
     ghost places = { linked_places };
 
-    ghost entries = { λ s e t l. none_past (chain_of s) e t l };
+    ghost entries = { entries_law };
 
-    ghost starts = { λ s e. none_kept (linked_used s) e 0 (λ r o y. omega (arith, o.0, y)) };
+    ghost starts = { starts_law };
 
-    ghost times = { λ s e t l. none_kept (linked_used s) e t (λ r o y. omega (arith, y, (sound_of s).times r)) };
+    ghost times = { times_law };
 
-    ghost fits = { λ s. omega (arith, all_places s) };
+    ghost fits = { fits_law };
 
     fn held(&self) -> u32 {
         self.held

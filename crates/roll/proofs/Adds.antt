@@ -13,7 +13,8 @@ use Rattle.keepers.specs.declared.version.Version.{Version}
 use Rattle.cards.proofs.Somes.{some≢none}
 use Rattle.cards.proofs.Counts.{same_set, with_here, with_other, held_more, held_none}
 use Rattle.keepers.proofs.Looks.{look_append, or_else_none, holds_here, holds_not}
-use Rattle.roll.specs.Meanings.{has, kept_at, past_times, newest_found}
+use Rattle.roll.proofs.Meanings.{has, kept_at, newest_found}
+use Rattle.roll.specs.Laws.{past_times}
 use Rattle.keepers.proofs.Verdicts.{refuse_order, takes}
 
 -- the version v comes after all of vs, and later than every one of its entry

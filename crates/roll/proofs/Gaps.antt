@@ -14,7 +14,7 @@ use Rattle.keepers.specs.Look.{no_version, or_else, look}
 use Rattle.keepers.specs.declared.version.Version.{Version}
 use Rattle.cards.proofs.Counts.{same_set, without_here, without_other, without_none, held_less}
 use Rattle.keepers.proofs.Looks.{look_append, look_none, holds_not}
-use Rattle.roll.specs.Meanings.{once, has, kept_at}
+use Rattle.roll.proofs.Meanings.{once, has, kept_at}
 
 -- a copy of what follows is what closes a gap
 pub closed_is : {X : Type 0} (xs : List X) (p held : ℕ) → p < held → paste xs p (drop (p + 1) xs) (held - (p + 1)) ≡ closed xs p held

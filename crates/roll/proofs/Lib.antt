@@ -1,2 +1,3 @@
 pub mod Adds
 pub mod Gaps
+pub mod Meanings

@@ -1,4 +1,3 @@
 pub mod Arrivals
 pub mod View
-pub mod Meanings
-pub mod Props
+pub mod Laws

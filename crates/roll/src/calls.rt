@@ -5,9 +5,7 @@ ghost use Rattle.keepers.specs.Kept.{Follows};
 ghost use Rattle.keepers.specs.Look.{look};
 ghost use Rattle.keepers.specs.Memory.{most_places};
 ghost use Rattle.roll.specs.View.{roll_front, roll_kept, roll_places, time_or_zero};
-ghost use Rattle.roll.specs.Meanings.{past_entries, no_start, past_times};
-ghost use Rattle.roll.specs.Props.{opened};
-ghost use Rattle.std.proofs.Common.{arith};
+ghost use Rattle.roll.specs.Laws.{entries_law, starts_law, times_law, fits_law};
 
 use crate::gap::close_gap;
 use crate::keeper::Roll;
@@ -57,13 +55,13 @@ impl Keeper for Roll {
 
     ghost places = { roll_places };
 
-    ghost entries = { λ s. past_entries _ (opened _ _ s.sound).arrived };
+    ghost entries = { entries_law };
 
-    ghost starts = { λ s. no_start _ (opened _ _ s.sound).arrived };
+    ghost starts = { starts_law };
 
-    ghost times = { λ s. past_times _ (opened _ _ s.sound).arrived };
+    ghost times = { times_law };
 
-    ghost fits = { λ s. let k = opened _ _ s.sound in omega (arith, k.counted, k.within, k.few) };
+    ghost fits = { fits_law };
 
     fn held(&self) -> u32 {
         self.held as u32

@@ -1,5 +1,5 @@
 use Rattle.std.proofs.Common.{arith, rules}
-use Rattle.roll.specs.Meanings.{follows_first, follows_absent}
+use Rattle.roll.proofs.Meanings.{follows_first, follows_absent}
 use Rattle.roll.proofs.calls.first_after.Goals as goal
 
 pub returns-then-version-time : goal.returns-then-version-time

@@ -4,7 +4,7 @@ use Rattle.linked.specs.View.{linked_kept, linked_places}
 use Rattle.keepers.proofs.Verdicts.{refuse_entry}
 use Rattle.linked.proofs.Edits.{used_in}
 use Rattle.linked.proofs.Adds.{placed_kept, placed_sound}
-use Rattle.linked.specs.Facts.{few_places, first_in, full, late, taken}
+use Rattle.linked.proofs.Facts.{few_places, first_in, full, late, taken}
 use Rattle.linked.proofs.calls.LinkedKeeper.add.Goals as goal
 
 pub returns-then-version-ge1024 : goal.returns-then-version-ge1024

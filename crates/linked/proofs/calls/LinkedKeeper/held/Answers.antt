@@ -1,5 +1,5 @@
 -- The count is kept with the places.
-use Rattle.linked.specs.Facts.{sound_of}
+use Rattle.linked.specs.Laws.{sound_of}
 use Rattle.linked.proofs.calls.LinkedKeeper.held.Goals as goal
 
 pub returns : goal.returns

@@ -1,6 +1,6 @@
 -- An entry's head is a used place.
-use Rattle.linked.specs.Facts.{chain_of}
-use Rattle.linked.specs.Chains.{in_places}
+use Rattle.linked.specs.Laws.{chain_of}
+use Rattle.linked.proofs.Chains.{in_places}
 use Rattle.linked.proofs.keeper.Linked.head_time.Goals as goal
 
 pub place_at-requires : goal.place_at-requires

@@ -1,7 +1,7 @@
 -- Each step of a walk stays in the chain and comes to an older version.
 use Rattle.std.proofs.Common.{arith}
-use Rattle.linked.specs.Facts.{chain_of}
-use Rattle.linked.specs.Chains.{in_places, at_place, step, falls, met}
+use Rattle.linked.specs.Laws.{chain_of}
+use Rattle.linked.proofs.Chains.{in_places, at_place, step, falls, met}
 use Rattle.linked.proofs.keeper.Linked.walk.Goals as goal
 
 pub place_at-place-requires : goal.place_at-place-requires

@@ -3,7 +3,7 @@ use Rattle.std.proofs.lemmas.Bool.{true≢false}
 use Rattle.keepers.specs.Kept.{added, said}
 use Rattle.roll.specs.View.{roll_kept}
 use Rattle.roll.proofs.Adds.{too_early, arrives}
-use Rattle.roll.specs.Props.{opened}
+use Rattle.roll.specs.Laws.{opened}
 use Rattle.roll.proofs.calls.RollKeeper.add.Goals as goal
 
 pub returns-then-version-time_of : goal.returns-then-version-time_of

@@ -2,7 +2,7 @@ use Rattle.std.proofs.Common.{List, get_or, Some, None, subst}
 use Rattle.keepers.specs.Kept.{Newest}
 use Rattle.keepers.specs.Look.{no_version, look}
 use Rattle.keepers.specs.declared.version.Version.{Version}
-use Rattle.roll.specs.Meanings.{newest_last, newest_absent}
+use Rattle.roll.proofs.Meanings.{newest_last, newest_absent}
 use Rattle.roll.proofs.calls.RollKeeper.find.Goals as goal
 
 pub returns-in-Some : goal.returns-in-Some

@@ -2,8 +2,8 @@ use Rattle.std.proofs.Common.{refl, arith, rules}
 use Rattle.std.proofs.lemmas.Bool.{true≢false}
 use Rattle.keepers.specs.Look.{no_version}
 use Rattle.roll.proofs.Gaps.{gap_closed, nothing_leaves, leaves}
-use Rattle.roll.specs.Meanings.{absent, absent_at}
-use Rattle.roll.specs.Props.{opened}
+use Rattle.roll.proofs.Meanings.{absent, absent_at}
+use Rattle.roll.specs.Laws.{opened}
 use Rattle.roll.proofs.calls.RollKeeper.remove.Goals as goal
 
 pub returns-in_default : goal.returns-in_default

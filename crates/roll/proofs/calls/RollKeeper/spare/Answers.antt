@@ -1,5 +1,5 @@
 use Rattle.std.proofs.Common.{arith}
-use Rattle.roll.specs.Props.{opened}
+use Rattle.roll.specs.Laws.{opened}
 use Rattle.roll.proofs.calls.RollKeeper.spare.Goals as goal
 
 pub overflow_sub-result : goal.overflow_sub-result

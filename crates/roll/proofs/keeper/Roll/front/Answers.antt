@@ -2,7 +2,7 @@ use Rattle.std.proofs.Common.{◌≡◌, ◌-◌, length, take, sym, ap, ◌∙�
 use Rattle.std.proofs.lemmas.List.{length-take-le}
 use Rattle.roll.specs.Arrivals.{Arrived}
 use Rattle.roll.specs.View.{roll_front}
-use Rattle.roll.specs.Props.{opened}
+use Rattle.roll.specs.Laws.{opened}
 use Rattle.roll.proofs.keeper.Roll.front.Goals as goal
 
 pub slice_bounds-result-end : goal.slice_bounds-result-end

@@ -1,10 +1,18 @@
--- That places are sound is a proposition, so that a keeper has it of itself.
-use Rattle.std.specs.Prelude.{ℕ, List, Option}
+-- That a linked keeper keeps the laws of a keeper. Nothing here is to be believed: these are the proofs that the impl of the trait
+-- names, and what they rest on. That places are sound is a proposition, so that a keeper has it of itself.
+use Rattle.std.specs.Prelude.{◌≡◌, ℕ, ◌+◌, ◌^◌, ◌≤◌, List, None, Option, vec_items, ◌≢◌}
+use Rattle.std.proofs.Common.{arith}
+use Rattle.std.proofs.lemmas.List.{length-take}
 use mathlib.Core.HLevel.{Π_prop, ×_prop, ×₃_prop, ⊥_prop}
 use Rattle.std.proofs.Math.Logic.{∥∥₁_elim}
 use Rattle.std.proofs.Math.Bridge.{le_prop}
 use Rattle.std.proofs.Math.Nat.{ℕ_set}
-use Rattle.linked.specs.Chain.{Sound, Chained, Freed}
+use Rattle.cards.specs.Versions.{held_in}
+use Rattle.keepers.specs.Memory.{most_places}
+use Rattle.keepers.proofs.Looks.{look_none}
+use Rattle.linked.specs.Chain.{empty_place, version_of, kept_in, time_at, OfEntry, Sound, Chained, Freed}
+use Rattle.linked.specs.View.{linked_used, linked_kept, linked_places}
+use Rattle.linked.specs.declared.keeper.Linked.{Linked}
 use Rattle.linked.specs.declared.place.Place.{Place}
 
 chained_prop : (ps : List Place) (hs : List (Option ℕ)) → IsProp (Chained ps hs)
@@ -41,3 +49,32 @@ module _ {ps : List Place} {hs : List (Option ℕ)} {f : Option ℕ} {n held : �
   -- what a keeper has of itself
   pub opened : ∥ Sound ps hs f n held ∥₁ → Sound ps hs f n held
   opened h = ∥∥₁_elim h sound_prop (λ s. s)
+
+-- no place has it
+pub none_kept : (ps : List Place) (e t : ℕ) → ((r : ℕ) → OfEntry ps e r → time_at ps r ≢ t) → kept_in ps e t ≡ None
+none_kept ps e t = look_none version_of empty_place ps e t
+
+module _ (s : Linked) where
+  pub sound_of : Sound (linked_used s) s.heads s.free s.spare s.held
+  sound_of = opened s.sound
+
+  pub chain_of : Chained (linked_used s) s.heads
+  chain_of = sound_of.chained
+
+  -- every used place has a version or is spare
+  pub all_places : held_in (linked_kept s) + s.spare ≡ linked_places s
+  all_places = omega (arith, sound_of.counted, sound_of.total, length-take most_places (vec_items s.places))
+
+-- ---- the laws
+
+pub entries_law : (s : Linked) (e t : ℕ) → 1024 ≤ e → linked_kept s e t ≡ None
+entries_law s e t l = none_kept (linked_used s) e t (λ r o y. omega (arith, o.1, (chain_of s).entries r o.0))
+
+pub starts_law : (s : Linked) (e : ℕ) → linked_kept s e 0 ≡ None
+starts_law s e = none_kept (linked_used s) e 0 (λ r o y. omega (arith, o.0, y))
+
+pub times_law : (s : Linked) (e t : ℕ) → 2 ^ 32 ≤ t → linked_kept s e t ≡ None
+times_law s e t l = none_kept (linked_used s) e t (λ r o y. omega (arith, y, (sound_of s).times r))
+
+pub fits_law : (s : Linked) → held_in (linked_kept s) ≤ linked_places s
+fits_law s = omega (arith, all_places s)

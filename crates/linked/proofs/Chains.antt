@@ -1,16 +1,13 @@
 -- What a place in a chain says of the versions of its entry.
-use Rattle.std.specs.Prelude.{◌≡◌, ℕ, ◌<◌, ◌≤◌, List, length, get_or, is_some, Some, None, Option, ◌≢◌, slice_index_or, refl}
+use Rattle.std.specs.Prelude.{◌≡◌, ℕ, ◌<◌, ◌≤◌, List, length, get_or, is_some, Some, None, Option, slice_index_or, refl}
 use Rattle.std.proofs.Common.{sym, ap, ◌∙◌, subst, arith}
 use Rattle.cards.specs.Versions.{newest_time}
 use Rattle.keepers.specs.Kept.{Newest, Follows}
 use Rattle.linked.specs.Chain.{empty_place, version_of, kept_in, time_at, next_at, time_or_zero, OfEntry, Chained, Sound, After}
+use Rattle.linked.specs.Laws.{none_kept}
 use Rattle.linked.specs.declared.place.Place.{Place}
 use Rattle.cards.proofs.Newest.{newest_none, newest_is}
-use Rattle.keepers.proofs.Looks.{look_none, look_some, filled_in}
-
--- no place has it
-pub none_kept : (ps : List Place) (e t : ℕ) → ((r : ℕ) → OfEntry ps e r → time_at ps r ≢ t) → kept_in ps e t ≡ None
-none_kept ps e t = look_none version_of empty_place ps e t
+use Rattle.keepers.proofs.Looks.{look_some, filled_in}
 
 -- a place that holds a version is there
 pub in_places : (ps : List Place) (p : ℕ) → 0 < time_at ps p → p < length ps
@@ -24,10 +21,6 @@ module _ {ps : List Place} {hs : List (Option ℕ)} (ch : Chained ps hs) where
   -- what a place holds is kept
   pub kept_at : (e q : ℕ) → OfEntry ps e q → kept_in ps e (time_at ps q) ≡ Some (get_or ps q empty_place).version.card
   kept_at e q o = look_some version_of empty_place ps e (time_at ps q) q (λ r w y. ch.once r q w.0 (w.1 ∙ sym o.1) y) o refl refl
-
-  -- no entry from 1,024 on has a version
-  pub none_past : (e t : ℕ) → 1024 ≤ e → kept_in ps e t ≡ None
-  none_past e t l = none_kept ps e t (λ r o y. omega (arith, o.1, ch.entries r o.0))
 
   -- a place that a walk comes to is of the entry, and has the newest of the versions that are not later
   pub at_place : {e t : ℕ} {b a : Option ℕ} (q : ℕ) → After ps hs e t b a → a ≡ Some q → OfEntry ps e q × ((r : ℕ) → OfEntry ps e r → time_at ps r ≤ t → time_at ps r ≤ time_at ps q)

@@ -6,50 +6,31 @@ use Rattle.cards.specs.Versions.{Kept, newest_time}
 use Rattle.roll.specs.Arrivals.{Arrived}
 use Rattle.keepers.specs.Kept.{Newest, Follows}
 use Rattle.keepers.specs.Lists.{Last}
-use Rattle.keepers.specs.Look.{no_version, look, Of}
+use Rattle.keepers.specs.Look.{no_version, look}
 use Rattle.roll.specs.View.{time_or_zero}
+use Rattle.roll.specs.Laws.{Has, inside, free_at}
 use Rattle.keepers.specs.declared.version.Version.{Version}
 use Rattle.cards.proofs.Newest.{newest_none, newest_is}
-use Rattle.keepers.proofs.Looks.{look_none, look_some, filled_in}
+use Rattle.keepers.proofs.Looks.{look_some}
 
 module _ (vs : List Version) (a : Arrived vs) where
   abbrev item : ℕ → Version
   item p = slice_index_or vs p no_version
 
-  abbrev Has : ℕ → ℕ → Type 0
-  Has e p = Of (λ v. v) no_version vs e p
-
-  inside : (e p : ℕ) → Has e p → p < length vs
-  inside e p h = filled_in (λ v. v) no_version vs p refl h.0
-
   -- one place for an entry and a time
-  pub once : (e p q : ℕ) → Has e p → Has e q → (item p).time ≡ (item q).time → p ≡ q
+  pub once : (e p q : ℕ) → Has vs e p → Has vs e q → (item p).time ≡ (item q).time → p ≡ q
   once e p q hp hq y =
       elim (cases_order p q) [
         | inl is ↦ is
-        | inr (inl lt) ↦ absurd (omega (arith, a.rising p q lt (inside e q hq) (hp.1 ∙ sym hq.1)))
-        | inr (inr gt) ↦ absurd (omega (arith, a.rising q p gt (inside e p hp) (hq.1 ∙ sym hp.1)))
+        | inr (inl lt) ↦ absurd (omega (arith, a.rising p q lt (inside vs e q hq) (hp.1 ∙ sym hq.1)))
+        | inr (inr gt) ↦ absurd (omega (arith, a.rising q p gt (inside vs e p hp) (hq.1 ∙ sym hp.1)))
       ]
 
-  pub has : (e p : ℕ) → p < length vs → (item p).entry ≡ e → Has e p
+  pub has : (e p : ℕ) → p < length vs → (item p).entry ≡ e → Has vs e p
   has e p l y = ((a.each p l).1, y)
 
-  pub kept_at : (e p : ℕ) → Has e p → look (λ v. v) vs e (item p).time ≡ Some (item p).card
+  pub kept_at : (e p : ℕ) → Has vs e p → look (λ v. v) vs e (item p).time ≡ Some (item p).card
   kept_at e p h = look_some (λ v. v) no_version vs e (item p).time p (λ q o y. once e q p o h y) h refl refl
-
-  -- nothing is held for an entry at a time that none of its places has
-  pub free_at : (e t : ℕ) → ((p : ℕ) → p < length vs → Has e p → (item p).time ≢ t) → look (λ v. v) vs e t ≡ None
-  free_at e t h = look_none (λ v. v) no_version vs e t (λ p o y. h p (inside e p o) o y)
-
-  -- what every keeper promises of what it holds
-  pub past_entries : (e t : ℕ) → 1024 ≤ e → look (λ v. v) vs e t ≡ None
-  past_entries e t l = free_at e t (λ p i o y. omega (arith, (a.each p i).0, o.1))
-
-  pub past_times : (e t : ℕ) → 2 ^ 32 ≤ t → look (λ v. v) vs e t ≡ None
-  past_times e t l = free_at e t (λ p i o y. omega (arith, (a.each p i).2))
-
-  pub no_start : (e : ℕ) → look (λ v. v) vs e 0 ≡ None
-  no_start e = free_at e 0 (λ p i o y. omega (arith, o.0))
 
   -- the last match is the newest version
   pub newest_last : (e u i : ℕ) → Last (λ v. (v.entry ≡ e) × (v.time ≤ u)) vs (Some i) → Newest (look (λ v. v) vs) e u (Some (item i))
@@ -59,7 +40,7 @@ module _ (vs : List Version) (a : Arrived vs) where
         y.0,
         y.1,
         kept_at e i h,
-        λ t lo hi. free_at e t (λ p l o z.
+        λ t lo hi. free_at vs e t (λ p l o z.
             elim (cases_order p i) [
               | inl q ↦ omega (arith, ap (λ n. (item n).time) q)
               | inr (inl lt) ↦ omega (arith, a.rising p i lt inn (o.1 ∙ sym h.1))
@@ -68,7 +49,7 @@ module _ (vs : List Version) (a : Arrived vs) where
       )
 
   pub newest_absent : (e u : ℕ) → Last (λ v. (v.entry ≡ e) × (v.time ≤ u)) vs None → Newest (look (λ v. v) vs) e u None
-  newest_absent e u none = λ t hi. free_at e t (λ p l o y. none p no_version l (o.1, omega arith))
+  newest_absent e u none = λ t hi. free_at vs e t (λ p l o y. none p no_version l (o.1, omega arith))
 
   -- no version of the time itself
   pub absent : (e u : ℕ) → Last (λ v. (v.entry ≡ e) × (v.time ≤ u)) vs None → look (λ v. v) vs e u ≡ None
@@ -82,7 +63,7 @@ module _ (vs : List Version) (a : Arrived vs) where
   follows_first e u i inn y above before = (
     above,
     ap is_some (kept_at e i (has e i inn y)),
-    λ t lo hi. free_at e t (λ p l o z.
+    λ t lo hi. free_at vs e t (λ p l o z.
         elim (cases_order p i) [
           | inl q ↦ omega (arith, ap (λ n. (item n).time) q)
           | inr (inl lt) ↦ before p lt o.1 (omega arith)
@@ -91,7 +72,7 @@ module _ (vs : List Version) (a : Arrived vs) where
   )
 
   pub follows_absent : (e u : ℕ) → ((k : ℕ) → k < length vs → (item k).entry ≡ e → u < (item k).time → ⊥) → Follows (look (λ v. v) vs) e u None
-  follows_absent e u none = λ t lo. free_at e t (λ p l o y. none p l o.1 (omega arith))
+  follows_absent e u none = λ t lo. free_at vs e t (λ p l o y. none p l o.1 (omega arith))
 
 -- what is found without a limit of time tells the newest time, and nothing is later
 pub newest_found : (m : Kept) (e : ℕ) (r : Option Version) → ((u : ℕ) → 2 ^ 32 ≤ u → m e u ≡ None) → Newest m e (2 ^ 32 - 1) r → (newest_time m e ≡ time_or_zero r) × ((u : ℕ) → time_or_zero r < u → m e u ≡ None)
