@@ -2,8 +2,9 @@
 
 # Proves what the program needs, builds it, runs it and holds its output to crates/story/stdout; then runs it again to show it.
 run:
-	rt check story
-	./target/bin/story
+	cd crates/story && rt run
+	./crates/story/out/story | cmp - crates/story/stdout
+	./crates/story/out/story
 
 # The whole gate.
 test:
