@@ -54,6 +54,10 @@ module _ {ps : List Place} {hs : List (Option ℕ)} {f : Option ℕ} {n held : �
 pub none_kept : (ps : List Place) (e t : ℕ) → ((r : ℕ) → OfEntry ps e r → time_at ps r ≢ t) → kept_in ps e t ≡ None
 none_kept ps e t = look_none version_of empty_place ps e t
 
+-- no entry from 1,024 on has a version
+pub none_past : {ps : List Place} {hs : List (Option ℕ)} → Chained ps hs → (e t : ℕ) → 1024 ≤ e → kept_in ps e t ≡ None
+none_past {ps} ch e t l = none_kept ps e t (λ r o y. omega (arith, o.1, ch.entries r o.0))
+
 module _ (s : Linked) where
   pub sound_of : Sound (linked_used s) s.heads s.free s.spare s.held
   sound_of = opened s.sound
@@ -68,7 +72,7 @@ module _ (s : Linked) where
 -- ---- the laws
 
 pub entries_law : (s : Linked) (e t : ℕ) → 1024 ≤ e → linked_kept s e t ≡ None
-entries_law s e t l = none_kept (linked_used s) e t (λ r o y. omega (arith, o.1, (chain_of s).entries r o.0))
+entries_law s e t l = none_past (chain_of s) e t l
 
 pub starts_law : (s : Linked) (e : ℕ) → linked_kept s e 0 ≡ None
 starts_law s e = none_kept (linked_used s) e 0 (λ r o y. omega (arith, o.0, y))

@@ -1,10 +1,10 @@
 -- The walk ends at the newest version up to the time, or there is none.
-use Rattle.linked.specs.Laws.{chain_of, entries_law}
+use Rattle.linked.specs.Laws.{chain_of, none_past}
 use Rattle.linked.proofs.Chains.{in_places, at_place, at_end, found}
 use Rattle.linked.proofs.calls.LinkedKeeper.find.Goals as goal
 
 pub returns-then-entry-ge1024 : goal.returns-then-entry-ge1024
-returns-then-entry-ge1024 c = λ u _. entries_law c.args.self.now _ u c.if-entry-ge1024.true
+returns-then-entry-ge1024 c = λ u _. none_past (chain_of c.args.self.now) _ u c.if-entry-ge1024.true
 
 pub place_at-requires : goal.place_at-requires
 place_at-requires c = in_places _ _ (at_place (chain_of c.args.self.now) _ c.walk-at.ensures.after c.in-Some.is).0.0

@@ -3,7 +3,7 @@ use Rattle.std.proofs.Common.{◌≡◌, ℕ, is_some, vec_items, sym, refl, ap,
 use Rattle.linked.specs.declared.place.Place.{Place}
 use Rattle.cards.proofs.Counts.{without_none}
 use Rattle.linked.proofs.Chains.{at_end, found}
-use Rattle.linked.specs.Laws.{entries_law, chain_of}
+use Rattle.linked.specs.Laws.{none_past, chain_of}
 use Rattle.linked.proofs.Edits.{used_in}
 use Rattle.linked.proofs.Cuts.{before_memory, in_used, out_found, some_held, out_kept, out_sound}
 use Rattle.linked.proofs.Facts.{few_places}
@@ -11,7 +11,7 @@ use Rattle.linked.proofs.calls.LinkedKeeper.remove.Goals as goal
 
 pub returns-then-entry-ge1024 : goal.returns-then-entry-ge1024
 returns-then-entry-ge1024 c =
-    let z = entries_law c.args.self.now _ c.args.time c.if-entry-ge1024.true in
+    let z = none_past (chain_of c.args.self.now) _ c.args.time c.if-entry-ge1024.true in
     record { answer = sym (ap is_some z); kept = without_none _ _ _ z; places = refl; same = λ _. refl }
 
 pub returns-in_default : goal.returns-in_default
