@@ -16,7 +16,8 @@ NAME = r"[^\s(){}\[\].,;:\"`]+"
 DECLARED = re.compile(r"^\s*(?:pub |abbrev |unfoldable |record |data |opaque )*(" + NAME + r")\s*(?:\([^\n]*\)\s*)?:\s")
 # The answers and invariants that the prover asks for have their type from it.
 ASKED = re.compile(r":\s*(?:\([^)]*\)\s*→\s*|\{[^}]*\}\s*→\s*)*goal\.")
-# Facts that were written in lower case, names that would fall together, and trait members that were in camel case.
+# Facts that were written in lower case (the last two in the unfinished tickets alone), trait members that were in camel case, and
+# names that would fall together.
 BY_HAND = {
     "is-collect": "IsCollect",
     "is-stage": "IsStage",
@@ -62,7 +63,7 @@ def turned(text, new):
 
 
 def in_clauses(text, new):
-    """Of a source file, everything but strings and char literals."""
+    """Of a source file, everything but strings."""
     parts = re.split(r'("(?:[^"\\\n]|\\.)*")', text)
     return "".join(p if i % 2 else turned(p, new) for i, p in enumerate(parts))
 

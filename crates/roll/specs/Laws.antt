@@ -44,14 +44,15 @@ inside vs e p h = filled_in (λ v. v) no_version vs p refl h.0
 pub free_at : (vs : List Version) (e t : ℕ) → ((p : ℕ) → p < length vs → Has vs e p → (slice_index_or vs p no_version).time ≢ t) → look (λ v. v) vs e t ≡ None
 free_at vs e t h = look_none (λ v. v) no_version vs e t (λ p o y. h p (inside vs e p o) o y)
 
+-- what every keeper promises of what it holds
 module _ (vs : List Version) (a : Arrived vs) where
-  past_entries : (e t : ℕ) → 1024 ≤ e → look (λ v. v) vs e t ≡ None
+  pub past_entries : (e t : ℕ) → 1024 ≤ e → look (λ v. v) vs e t ≡ None
   past_entries e t l = free_at vs e t (λ p i o y. omega (arith, (a.each p i).0, o.1))
 
   pub past_times : (e t : ℕ) → 2 ^ 32 ≤ t → look (λ v. v) vs e t ≡ None
   past_times e t l = free_at vs e t (λ p i o y. omega (arith, (a.each p i).2))
 
-  no_start : (e : ℕ) → look (λ v. v) vs e 0 ≡ None
+  pub no_start : (e : ℕ) → look (λ v. v) vs e 0 ≡ None
   no_start e = free_at vs e 0 (λ p i o y. omega (arith, o.0))
 
 -- ---- the laws
