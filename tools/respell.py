@@ -16,12 +16,9 @@ NAME = r"[^\s(){}\[\].,;:\"`]+"
 DECLARED = re.compile(r"^\s*(?:pub |abbrev |unfoldable |record |data |opaque )*(" + NAME + r")\s*(?:\([^\n]*\)\s*)?:\s")
 # The answers and invariants that the prover asks for have their type from it.
 ASKED = re.compile(r":\s*(?:\([^)]*\)\s*→\s*|\{[^}]*\}\s*→\s*)*goal\.")
-# Facts that were written in lower case (the last two in the unfinished tickets alone), trait members that were in camel case, and
-# names that would fall together.
+# A fact that was written in lower case, trait members that were in camel case, and names that would fall together.
 BY_HAND = {
     "is-collect": "IsCollect",
-    "is-stage": "IsStage",
-    "is-stamped": "IsStamped",
     "entryOf": "entry_of",
     "timeOf": "time_of",
     "getD-all": "get_or_all",
