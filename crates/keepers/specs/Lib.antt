@@ -1,3 +1,4 @@
+pub mod Entries
 pub mod Fixed
 pub mod Kept
 pub mod Lists

@@ -2,6 +2,7 @@
 #![tactic(auto)]
 
 pub mod draft;
+pub mod entry;
 pub mod keeper;
 pub mod memory;
 pub mod search;

@@ -33,10 +33,7 @@ impl BearsEntry for u16 {
 pub fn last_match<T: BearsEntry>(items: &[T], entry: u16, up_to: u32) -> Option<usize>
     ensures { Last (λ x. (T.entry_of x ≡ entry) × (T.time_of x ≤ up_to)) items.now result }
 {
-    for i in (0..items.len()).rev() {
-        if items[i].entry() == entry && items[i].time() <= up_to {
-            return Some(i);
-        }
-    }
-    None
+    items
+        .iter()
+        .rposition(|item| item.entry() == entry && item.time() <= up_to)
 }
