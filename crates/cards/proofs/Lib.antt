@@ -3,4 +3,3 @@ pub mod Counts
 pub mod Fields
 pub mod Newest
 pub mod Somes
-pub mod Table

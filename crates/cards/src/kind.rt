@@ -5,16 +5,11 @@ ghost use Rattle.cards.specs.Kinds.{letter_map, mark_map, pair_map, fits_in};
 
 use crate::card::Card;
 
-// A kind of entry, by its constant map of the fields that it may bear.
+// A kind of entry, by its constant map of the fields that it may bear. Clauses name the same constant.
 pub trait Kind {
+    ghost MAP: { ℕ };
+
     const MAP: u8;
-
-    // The constant, as a clause can name it.
-    ghost bears: { ℕ };
-
-    // The constant, as generic code can use it.
-    fn bits() -> u8
-        ensures { result ≡ bears };
 }
 
 // A letter bears an advance, a left bearing and an anchor.
@@ -27,39 +22,27 @@ pub struct Mark;
 pub struct Pair;
 
 impl Kind for Letter {
+    ghost MAP = { letter_map };
+
     const MAP: u8 = 15;
-
-    ghost bears = { letter_map };
-
-    fn bits() -> u8 {
-        Self::MAP
-    }
 }
 
 impl Kind for Mark {
+    ghost MAP = { mark_map };
+
     const MAP: u8 = 28;
-
-    ghost bears = { mark_map };
-
-    fn bits() -> u8 {
-        Self::MAP
-    }
 }
 
 impl Kind for Pair {
+    ghost MAP = { pair_map };
+
     const MAP: u8 = 32;
-
-    ghost bears = { pair_map };
-
-    fn bits() -> u8 {
-        Self::MAP
-    }
 }
 
 // Whether a card has no bit that its kind may not bear.
 pub fn fits<K: Kind>(card: Card) -> bool
-    ensures { result ≡ fits_in K.bears (map_of card) }
+    ensures { result ≡ fits_in K.MAP (map_of card) }
 {
     let map = card.map();
-    map & K::bits() == map
+    map & K::MAP == map
 }

@@ -22,10 +22,11 @@ fn length_of(map: u8) -> usize
     requires { map < 64 }
     ensures { result ≡ 1 + 2 * bits_set map }
 {
-    LENGTHS[map as usize] as usize
+    usize::from(LENGTHS[usize::from(map)])
 }
 
 // How many bytes a card packs to.
+#[tactic(auto, using(crate::proofs::Fields::packed_length))]
 pub fn packed_len(card: Card) -> usize
     ensures { result ≡ length (packed card) }
 {
@@ -41,9 +42,7 @@ fn put_field(out: &mut [u8], at: usize, field: Option<i16>) -> usize
 {
     match field {
         Some(n) => {
-            let [high, low] = n.to_be_bytes();
-            out[at] = high;
-            out[at + 1] = low;
+            out[at..at + 2].copy_from_slice(&n.to_be_bytes());
             at + 2
         }
         None => at,
@@ -51,6 +50,7 @@ fn put_field(out: &mut [u8], at: usize, field: Option<i16>) -> usize
 }
 
 // Writes a card at the front of a buffer and answers its length. Bytes behind it stay; where it has no room, all do.
+#[tactic(auto, using(crate::proofs::Fields::packed_length))]
 pub fn pack(card: Card, out: &mut [u8]) -> Result<usize, Refusal>
     ensures answer { result ≡ pack_answer card (length out.old) }
     ensures buffer { out.new ≡ pack_buffer card out.old }
@@ -76,10 +76,9 @@ fn take_field(bytes: &[u8], present: bool) -> (Option<i16>, &[u8])
     ensures there { is_some result.0 ≡ present }
     ensures fit { Fit result.0 }
 {
-    if present {
-        (Some(i16::from_be_bytes([bytes[0], bytes[1]])), &bytes[2..])
-    } else {
-        (None, bytes)
+    match bytes.split_first_chunk::<2>() {
+        Some((number, rest)) if present => (Some(i16::from_be_bytes(*number)), rest),
+        _ => (None, bytes),
     }
 }
 
@@ -88,17 +87,14 @@ pub fn unpack(bytes: &[u8]) -> Result<(Card, &[u8]), Refusal>
     ensures answer { MatchResult result (λ x. (unpack_refusal bytes.now ≡ None) × (bytes.now ≡ packed x.0 ++ x.1.now)) (λ e. unpack_refusal bytes.now ≡ Some e) }
     ensures inverse { (c : Card) (rest : List ℕ) → Fits c → bytes.now ≡ packed c ++ rest → MatchResult result (λ x. (x.0 ≡ c) × (x.1.now ≡ rest)) (λ _. ⊥) }
 {
-    if bytes.is_empty() {
-        return Err(Refusal::Short);
-    }
-    let map = bytes[0];
+    let (&map, fields) = bytes.split_first().ok_or(Refusal::Short)?;
     if map >= MAPS {
         return Err(Refusal::Map);
     }
     if bytes.len() < length_of(map) {
         return Err(Refusal::Short);
     }
-    let (advance, rest) = take_field(&bytes[1..], map % 2 == 1);
+    let (advance, rest) = take_field(fields, map % 2 == 1);
     let (left_bearing, rest) = take_field(rest, map / 2 % 2 == 1);
     let (anchor_across, rest) = take_field(rest, map / 4 % 2 == 1);
     let (anchor_up, rest) = take_field(rest, map / 8 % 2 == 1);

@@ -1,28 +1,30 @@
 // Why a call is declined.
-ghost use Rattle.std.specs.Prelude.{◌≡◌};
+ghost use Rattle.std.specs.Prelude.{◌≡◌, Some};
 ghost use Rattle.cards.specs.Refusals.{number_of, word_of};
 
-// One case for each word of the table, in the table's order. Where several apply, the first is given.
+use std::fmt;
+
+// One case for each word of the table, with its number, in the table's order. Where several apply, the first is given.
 #[derive(Clone, Copy, PartialEq, Eq, Debug)]
 pub enum Refusal {
-    Seat,
-    Stage,
-    Entry,
-    Misfit,
-    Held,
-    Stale,
-    List,
-    Places,
-    Clock,
-    Unput,
-    Waiting,
-    Needed,
-    Sizes,
-    Line,
-    Map,
-    Short,
-    Full,
-    Order,
+    Seat = 1,
+    Stage = 2,
+    Entry = 3,
+    Misfit = 4,
+    Held = 5,
+    Stale = 6,
+    List = 7,
+    Places = 8,
+    Clock = 9,
+    Unput = 10,
+    Waiting = 11,
+    Needed = 12,
+    Sizes = 13,
+    Line = 14,
+    Map = 15,
+    Short = 16,
+    Full = 17,
+    Order = 18,
 }
 
 impl Refusal {
@@ -30,26 +32,7 @@ impl Refusal {
     pub fn number(self) -> u8
         ensures { result ≡ number_of self }
     {
-        match self {
-            Refusal::Seat => 1,
-            Refusal::Stage => 2,
-            Refusal::Entry => 3,
-            Refusal::Misfit => 4,
-            Refusal::Held => 5,
-            Refusal::Stale => 6,
-            Refusal::List => 7,
-            Refusal::Places => 8,
-            Refusal::Clock => 9,
-            Refusal::Unput => 10,
-            Refusal::Waiting => 11,
-            Refusal::Needed => 12,
-            Refusal::Sizes => 13,
-            Refusal::Line => 14,
-            Refusal::Map => 15,
-            Refusal::Short => 16,
-            Refusal::Full => 17,
-            Refusal::Order => 18,
-        }
+        self as u8
     }
 
     // Its word, for people.
@@ -76,5 +59,21 @@ impl Refusal {
             Refusal::Full => "full",
             Refusal::Order => "order",
         }
+    }
+}
+
+impl From<Refusal> for u8 {
+    ghost from_gives = { λ why n. n ≡ number_of why };
+
+    fn from(why: Refusal) -> u8 {
+        why.number()
+    }
+}
+
+impl fmt::Display for Refusal {
+    ghost output = { λ why. Some (word_of why) };
+
+    fn fmt<W: fmt::Write>(&self, f: &mut fmt::Formatter<W>) -> fmt::Result {
+        f.write_str(self.word())
     }
 }

@@ -1,15 +1,21 @@
--- The table's rule, by one test over the whole table. A constant has no name in a proof, so the table stands here again.
-use Rattle.std.proofs.Common.{ℕ, ◌+◌, ◌*◌, Bool, eqb, List, [], ◌∷◌, get_or, eqb→eq}
+-- The table is its rule, written out.
+use Rattle.std.proofs.Common.{◌≡◌, ℕ, ◌+◌, ◌*◌, ◌∙◌, List, map, get_or, refl, ap, arith, rules}
+use Rattle.std.specs.List.{range_with_len}
+use Rattle.std.proofs.lemmas.List.FromFn.{get_or-map-range_with_len}
 use Rattle.cards.specs.Packed.{bits_set}
-use Rattle.cards.proofs.Table.{at}
+use Rattle.cards.specs.declared.packing.TheConstants.{LENGTHS}
 use Rattle.cards.proofs.packing.length_of.Goals as goal
 
-lengths : List ℕ
-lengths = 1 ∷ 3 ∷ 3 ∷ 5 ∷ 3 ∷ 5 ∷ 5 ∷ 7 ∷ 3 ∷ 5 ∷ 5 ∷ 7 ∷ 5 ∷ 7 ∷ 7 ∷ 9 ∷ 3 ∷ 5 ∷ 5 ∷ 7 ∷ 5 ∷ 7 ∷ 7 ∷ 9 ∷ 5 ∷ 7 ∷ 7 ∷ 9 ∷ 7 ∷ 9 ∷ 9 ∷ 11 ∷ 3 ∷ 5 ∷ 5 ∷ 7 ∷ 5 ∷ 7 ∷ 7 ∷ 9 ∷ 5 ∷ 7 ∷ 7 ∷ 9 ∷ 7 ∷ 9 ∷ 9 ∷ 11 ∷ 5 ∷ 7 ∷ 7 ∷ 9 ∷ 7 ∷ 9 ∷ 9 ∷ 11 ∷ 7 ∷ 9 ∷ 9 ∷ 11 ∷ 9 ∷ 11 ∷ 11 ∷ 13 ∷ []
+rule : ℕ → ℕ
+rule m = 1 + 2 * bits_set m
 
-right : ℕ → ℕ → Bool
-right k x = eqb x (1 + 2 * bits_set k)
+table : LENGTHS ≡ map rule (range_with_len 0 64)
+unfolding rule
+table = refl
 
 pub returns : goal.returns
-unfolding lengths right
-returns c = eqb→eq (get_or lengths c.args.map 0) (1 + 2 * bits_set c.args.map) (at right lengths tt c.args.map c.requires)
+unfolding rule
+returns c =
+    let m = c.args.map in
+    let read : c.from-2.result ≡ get_or LENGTHS m 0 = search rules in
+    read ∙ ap (λ (xs : List ℕ). get_or xs m 0) table ∙ get_or-map-range_with_len rule 0 64 m m 0 c.requires (omega arith)

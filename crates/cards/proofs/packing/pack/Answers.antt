@@ -1,17 +1,11 @@
-use Rattle.std.proofs.Common.{◌≡◌, ℕ, ◌+◌, ◌*◌, ◌<◌, true, false, List, [], ◌∷◌, ◌++◌, length, take, drop, set, sym, ap, ◌∙◌, arith}
+use Rattle.std.proofs.Common.{◌≡◌, ℕ, ◌+◌, ◌*◌, ◌<◌, false, List, [], ◌∷◌, ◌++◌, length, take, drop, set, sym, ap, ◌∙◌, arith}
 use Rattle.std.proofs.lemmas.List.{take_more_set, drop-set-lt, take-append-drop}
-use Rattle.std.proofs.lemmas.Bool.{lt-ltb, le-ltb}
+use Rattle.std.proofs.lemmas.Bool.{le-ltb}
 use Rattle.cards.specs.Cards.{map_of}
 use Rattle.cards.specs.Packed.{packed, bits_set, too_short}
 use Rattle.cards.proofs.Buffers.{joined_back}
 use Rattle.cards.proofs.Fields.{packed_is, packed_sum, packed_length}
 use Rattle.cards.proofs.packing.pack.Goals as goal
-
-pub returns-then-out-length_of : goal.returns-then-out-length_of
-returns-then-out-length_of c =
-    let card = c.args.card in
-    let short : too_short card (length c.args.out.now) ≡ true = lt-ltb _ _ (omega (arith, packed_length card, ap (λ (m : ℕ). 1 + 2 * bits_set m) c.map-map.ensures.value)) in
-    record { answer = rw short; buffer = rw short }
 
 pub returns : goal.returns
 returns c =
