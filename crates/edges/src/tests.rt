@@ -30,10 +30,7 @@ fn roll(heap: Global, places: usize) -> Result<Roll, AllocError> {
 
 // The time of the newest version up to a time, 0 without one.
 fn found<K: Keeper>(keeper: &K, entry: u16, up_to: u32) -> u32 {
-    match keeper.find(entry, up_to) {
-        Some(v) => v.time,
-        None => 0,
-    }
+    keeper.find(entry, up_to).map_or(0, |v| v.time)
 }
 
 fn no_place<K: Keeper>(rt: &impl Abort, keeper: &mut K) {

@@ -1,38 +1,39 @@
-// How the program shows a card: the fields that it has, by name.
+// How the program shows a card: the fields that it has, by name. Card belongs to another crate, so the text has a type here.
 use cards::card::Card;
 use std::fmt;
 
-#[derive(Drop)]
+#[derive(Clone, Copy)]
 pub struct Shown {
     pub card: Card,
 }
 
-// Writes a field that is there, with a comma before it unless it is the first; says whether any was written so far.
-fn field<W: fmt::Write>(
-    f: &mut fmt::Formatter<W>,
-    name: &str,
-    value: Option<i16>,
-    any: bool,
-) -> Result<bool, fmt::Error> {
-    match value {
-        Some(n) => {
-            let before = if any { ", " } else { "" };
-            write!(f, "{before}{name} {n}")?;
-            Ok(true)
-        }
-        None => Ok(any),
+impl Shown {
+    // The fields by name, in the order of their bits.
+    fn fields(self) -> [(&'static str, Option<i16>); 6] {
+        let card = self.card;
+        [
+            ("advance", card.advance),
+            ("left bearing", card.left_bearing),
+            ("anchor across", card.anchor_across),
+            ("anchor up", card.anchor_up),
+            ("mark class", card.mark_class),
+            ("kern", card.kern),
+        ]
     }
 }
 
 impl fmt::Display for Shown {
     fn fmt<W: fmt::Write>(&self, f: &mut fmt::Formatter<W>) -> fmt::Result {
-        let card = self.card;
-        let any = field(f, "advance", card.advance, false)?;
-        let any = field(f, "left bearing", card.left_bearing, any)?;
-        let any = field(f, "anchor across", card.anchor_across, any)?;
-        let any = field(f, "anchor up", card.anchor_up, any)?;
-        let any = field(f, "mark class", card.mark_class, any)?;
-        let any = field(f, "kern", card.kern, any)?;
-        if any { Ok(()) } else { f.write_str("blank") }
+        let mut before = "";
+        for (name, value) in self.fields() {
+            if let Some(number) = value {
+                write!(f, "{before}{name} {number}")?;
+                before = ", ";
+            }
+        }
+        if before.is_empty() {
+            return f.write_str("blank");
+        }
+        Ok(())
     }
 }
