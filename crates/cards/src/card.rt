@@ -3,7 +3,7 @@ ghost use Rattle.std.specs.Prelude.{◌≡◌, ◌<◌};
 ghost use Rattle.cards.specs.Cards.{blank_card, bit, map_of};
 
 // Six fields, each a number or absent. An absent field has no number that could disagree with the bit map.
-#[derive(Clone, Copy, PartialEq, Eq, Debug)]
+#[derive(Clone, Copy, Default, PartialEq, Eq, Debug)]
 pub struct Card {
     pub advance: Option<i16>,
     pub left_bearing: Option<i16>,
@@ -28,14 +28,7 @@ impl Card {
     pub fn blank() -> Card
         ensures { result ≡ blank_card }
     {
-        Card {
-            advance: None,
-            left_bearing: None,
-            anchor_across: None,
-            anchor_up: None,
-            mark_class: None,
-            kern: None,
-        }
+        Card::default()
     }
 
     // The bit map: which fields are there, the advance lowest.

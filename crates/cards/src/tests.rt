@@ -23,14 +23,10 @@ fn packed_into(rt: &impl Abort, card: Card, want: [u8; 16], len: usize) -> Resul
     assert_eq!(rt; pack(card, &mut out), Ok(len));
     assert_eq!(rt; packed_len(card), len);
     assert!(rt; out == want);
-    match unpack(&out) {
-        Ok((back, rest)) => {
-            assert_eq!(rt; back, card);
-            assert_eq!(rt; rest.len() + len, 16);
-            Ok(())
-        }
-        Err(_) => Err(Fail::new("not unpacked")),
-    }
+    let (back, rest) = unpack(&out)?;
+    assert_eq!(rt; back, card);
+    assert_eq!(rt; rest.len() + len, 16);
+    Ok(())
 }
 
 #[test]
@@ -81,23 +77,16 @@ fn a_short_buffer_stays(rt: HostRuntime) {
     assert_eq!(rt; pack(Card::blank(), &mut none), Err(Refusal::Short));
 }
 
-fn declined(rt: &impl Abort, bytes: &[u8], want: Refusal) -> Result<(), Fail> {
-    match unpack(bytes) {
-        Ok(_) => Err(Fail::new("unpacked")),
-        Err(why) => {
-            assert_eq!(rt; why, want);
-            Ok(())
-        },
-    }
-}
-
 #[test]
-fn bytes_that_are_no_card(rt: HostRuntime) -> Result<(), Fail> {
-    declined(&rt, &[], Refusal::Short)?;
-    declined(&rt, &[0x40], Refusal::Map)?;
-    declined(&rt, &[0xFF, 0, 0], Refusal::Map)?;
-    declined(&rt, &[1, 2], Refusal::Short)?;
-    declined(&rt, &[63, 0, 0, 0, 0, 0, 0, 0, 0, 0, 0, 0], Refusal::Short)
+fn bytes_that_are_no_card(rt: HostRuntime) {
+    assert_eq!(rt; unpack(&[]).err(), Some(Refusal::Short));
+    assert_eq!(rt; unpack(&[0x40]).err(), Some(Refusal::Map));
+    assert_eq!(rt; unpack(&[0xFF, 0, 0]).err(), Some(Refusal::Map));
+    assert_eq!(rt; unpack(&[1, 2]).err(), Some(Refusal::Short));
+    assert_eq!(rt;
+        unpack(&[63, 0, 0, 0, 0, 0, 0, 0, 0, 0, 0, 0]).err(),
+        Some(Refusal::Short)
+    );
 }
 
 #[test]
@@ -128,5 +117,6 @@ fn what_a_kind_may_bear(rt: HostRuntime) {
 fn numbers_and_words(rt: HostRuntime) {
     assert_eq!(rt; Refusal::Seat.number(), 1);
     assert_eq!(rt; Refusal::Order.number(), 18);
+    assert_eq!(rt; u8::from(Refusal::Map), 15);
     assert!(rt; Refusal::Order.word() == "order");
 }
