@@ -1,5 +1,5 @@
 -- Collect keeps the invariant.
-use Rattle.std.proofs.Common.{◌≡◌, ℕ, Bool, true, false, cond, ◌⊎◌, List, ◌∷◌, Some, None, Err, Option, Result, sym, refl, ◌∙◌, subst, inl, inr, arith}
+use Rattle.std.proofs.Common.{◌≡◌, ℕ, Bool, true, false, cond, ◌⊎◌, List, ◌∷◌, Some, None, Ok, Err, Option, Result, sym, refl, ◌∙◌, subst, inl, inr, arith}
 use Rattle.cards.specs.declared.card.Card.{Card}
 use Rattle.rules.specs.State.{floor, after, with_kept, State, ready}
 use Rattle.cards.specs.declared.refusal.Refusal.{Refusal}
@@ -8,7 +8,7 @@ use Rattle.rules.specs.declared.call.Call.TheVariants as call
 use Rattle.rules.specs.declared.answer.Answer.TheVariants as answer
 use Rattle.cards.specs.Versions.{without}
 use Rattle.rules.specs.Rules.{collect_next, collect_oldest}
-use Rattle.rules.specs.Runs.{Event, event, answered}
+use Rattle.rules.specs.Runs.{Event, event, told}
 use Rattle.cards.proofs.Somes.{some≢none}
 use Rattle.rules.proofs.Ready.{floor_le, floor_off}
 use Rattle.rules.proofs.Inv.{Gone}
@@ -17,7 +17,7 @@ use Rattle.rules.proofs.Versions.{cases_two, without_same, after_some}
 use Rattle.rules.proofs.Plainly.{Inv}
 
 module _ (h : List Event) (s : State) (i : Inv h s) (n : ℕ) where
-  collected : (t f : ℕ) → after (s.kept n) t (floor s) ≡ Some f → Inv (event (call.Collect n) (answer.Number t) ∷ h) (with_kept s (without s.kept n t))
+  collected : (t f : ℕ) → after (s.kept n) t (floor s) ≡ Some f → Inv (event (call.Collect n) (Ok (answer.Number t)) ∷ h) (with_kept s (without s.kept n t))
   collected t f e = (
     i.0,
     record {
@@ -51,11 +51,11 @@ module _ (h : List Event) (s : State) (i : Inv h s) (n : ℕ) where
           subst (λ (x : ℕ). Gone (i.0 x) (ready s) s.seats u) (sym w.0) (subst (Gone (i.0 n) (ready s) s.seats) (sym w.1)
           (f, (z.2.0, i.1.only n f z.2.0 z.2.1), z.0, (let l = z.1 in let r = floor_le (ready s) s.seats in omega arith), floor_off (ready s) s.seats t f z.1))
 
-  pub collect_keeps : (b : Bool) → (x : Option ℕ) → let p : State × Result ℕ Refusal = cond b (collect_oldest s n x) (s, Err why.Entry) in Inv (event (call.Collect n) (answered answer.Number p.1) ∷ h) p.0
+  pub collect_keeps : (b : Bool) → (x : Option ℕ) → let p : State × Result ℕ Refusal = cond b (collect_oldest s n x) (s, Err why.Entry) in Inv (event (call.Collect n) (told answer.Number p).1 ∷ h) p.0
   collect_keeps false x = i
   collect_keeps true None = i
   collect_keeps true (Some t) = go (after (s.kept n) t (floor s)) refl
     where
-      go : (y : Option ℕ) → after (s.kept n) t (floor s) ≡ y → let p : State × Result ℕ Refusal = collect_next s n t y in Inv (event (call.Collect n) (answered answer.Number p.1) ∷ h) p.0
+      go : (y : Option ℕ) → after (s.kept n) t (floor s) ≡ y → let p : State × Result ℕ Refusal = collect_next s n t y in Inv (event (call.Collect n) (told answer.Number p).1 ∷ h) p.0
       go None e = i
       go (Some f) e = collected t f e

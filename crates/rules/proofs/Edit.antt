@@ -9,14 +9,14 @@ use Rattle.cards.specs.declared.refusal.Refusal.TheVariants as why
 use Rattle.rules.specs.declared.call.Call.TheVariants as call
 use Rattle.rules.specs.declared.answer.Answer.TheVariants as answer
 use Rattle.rules.specs.Rules.{staged, edit_at}
-use Rattle.rules.specs.Runs.{Event, event, answered}
+use Rattle.rules.specs.Runs.{Event, event, told}
 use Rattle.rules.specs.Account.{Drafting, account}
 use Rattle.rules.proofs.Saw.{saw}
 use Rattle.rules.proofs.Plainly.{Inv, desk_here, desk_other, plainly}
 
 module _ (h : List Event) (s : State) (i : Inv h s) (k : ℕ) where
   pub edit_keeps : (b : Bool) → ltb k 16 ≡ b → (g : Stage) → (seat s k).stage ≡ g →
-      let p : State × Result ℕ Refusal = cond b (edit_at s k g) (s, Err why.Seat) in Inv (event (call.Edit k) (answered answer.Number p.1) ∷ h) p.0
+      let p : State × Result ℕ Refusal = cond b (edit_at s k g) (s, Err why.Seat) in Inv (event (call.Edit k) (told answer.Number p).1 ∷ h) p.0
   edit_keeps false lt g at = i
   edit_keeps true lt (stage.Proof t) at = i
   edit_keeps true lt (stage.Edit t) at = i

@@ -8,14 +8,14 @@ use Rattle.cards.specs.declared.refusal.Refusal.{Refusal}
 use Rattle.cards.specs.declared.refusal.Refusal.TheVariants as why
 use Rattle.rules.specs.declared.call.Call.TheVariants as call
 use Rattle.rules.specs.Rules.{end_at}
-use Rattle.rules.specs.Runs.{Event, event, answered, done}
+use Rattle.rules.specs.Runs.{Event, event, told, done}
 use Rattle.rules.specs.Account.{Free, account}
 use Rattle.rules.proofs.Saw.{saw}
 use Rattle.rules.proofs.Plainly.{Inv, desk_here, desk_other, plainly}
 
 module _ (h : List Event) (s : State) (i : Inv h s) (k : ℕ) where
   pub end_keeps : (b : Bool) → ltb k 16 ≡ b → (g : Stage) → (seat s k).stage ≡ g →
-      let p : State × Result (Unit {0}) Refusal = cond b (end_at s k g) (s, Err why.Seat) in Inv (event (call.End k) (answered done p.1) ∷ h) p.0
+      let p : State × Result (Unit {0}) Refusal = cond b (end_at s k g) (s, Err why.Seat) in Inv (event (call.End k) (told done p).1 ∷ h) p.0
   end_keeps false lt g at = i
   end_keeps true lt stage.Idle at = i
   end_keeps true lt (stage.Edit t) at = i

@@ -14,7 +14,7 @@ use Rattle.rules.specs.declared.answer.Answer.TheVariants as answer
 use Rattle.cards.specs.Cards.{blank_card}
 use Rattle.rules.specs.State.{with_clock, Fresh, after, floor, Seat, idle, Row, free_row, State, size, seat, row, look, has, other, any_held, any_stale, latest, unput_all, with_seat}
 use Rattle.rules.specs.Rules.{stamp_at, put_draft, put_next, put_at, restaged, proof_at, edit_at, newest, noted, read_edit, read_at}
-use Rattle.rules.specs.Runs.{step, Event, event, answered, Reached, new, more}
+use Rattle.rules.specs.Runs.{step, Event, event, told, Reached, new, more}
 use Rattle.rules.specs.Account.{fed, granted, number, Desk, Free, Reading, Drafting, Given, Account, account, card_after}
 use Rattle.rules.proofs.Saw.{saw}
 use Rattle.rules.proofs.Fair.{FairProof, FairEdit, FairRead, FairStamp, FairPut, RightCard, Declinable, Stood, Fair, Honest}
@@ -99,7 +99,7 @@ module _ (h : List Event) (s : State) (i : Inv h s) (w : ℕ → ℕ → Option 
   card_whole : (T n : ℕ) → T ≤ s.clock → card_after w T n ≡ card_after (account h).wrote T n
   card_whole T n l = card_same w (account h).wrote T n (λ t m. same t n (let c = i.1.clock in omega arith))
 
-  proof_fair : (k : ℕ) (b : Bool) (g : Stage) → let p : State × Result ℕ Refusal = cond b (proof_at s k g) (s, Err why.Seat) in FairProof (account h) (answered answer.Number p.1)
+  proof_fair : (k : ℕ) (b : Bool) (g : Stage) → let p : State × Result ℕ Refusal = cond b (proof_at s k g) (s, Err why.Seat) in FairProof (account h) (told answer.Number p).1
   proof_fair k false g = tt
   proof_fair k true stage.Idle = ((let l = ready_le s.clock s.seats in let c = i.1.clock in omega arith), i.1.settled)
   proof_fair k true (stage.Proof t) = tt
@@ -107,7 +107,7 @@ module _ (h : List Event) (s : State) (i : Inv h s) (w : ℕ → ℕ → Option 
   proof_fair k true (stage.Locked t) = tt
   proof_fair k true (stage.Stamped t p) = tt
 
-  edit_fair : (k : ℕ) (b : Bool) (g : Stage) → let p : State × Result ℕ Refusal = cond b (edit_at s k g) (s, Err why.Seat) in FairEdit (account h) (answered answer.Number p.1)
+  edit_fair : (k : ℕ) (b : Bool) (g : Stage) → let p : State × Result ℕ Refusal = cond b (edit_at s k g) (s, Err why.Seat) in FairEdit (account h) (told answer.Number p).1
   edit_fair k false g = tt
   edit_fair k true stage.Idle = sym i.1.clock
   edit_fair k true (stage.Proof t) = tt
@@ -120,7 +120,7 @@ module _ (h : List Event) (s : State) (i : Inv h s) (w : ℕ → ℕ → Option 
   may_decline k n d e x = subst (Declinable (size s) n) (sym e) x
 
   read_proof_fair : (k n t : ℕ) → (seat s k).stage ≡ stage.Proof t → (x : Bool) → ltb n (size s) ≡ x →
-      let p : State × Result Card Refusal = cond x (s, Ok (unwrap_or (latest (s.kept n) t) blank_card)) (s, Err why.Entry) in FairRead (size s) w n ((account h).desk k) (answered answer.Card p.1)
+      let p : State × Result Card Refusal = cond x (s, Ok (unwrap_or (latest (s.kept n) t) blank_card)) (s, Err why.Entry) in FairRead (size s) w n ((account h).desk k) (told answer.Card p).1
   read_proof_fair k n t at false e = may_decline k n (Reading t) (at_stage h s i k (stage.Proof t) at).0 (ltb-false n (size s) e)
   read_proof_fair k n t at true e =
       let o = at_stage h s i k (stage.Proof t) at in
@@ -130,7 +130,7 @@ module _ (h : List Event) (s : State) (i : Inv h s) (w : ℕ → ℕ → Option 
 
   read_new_fair : (k n t : ℕ) → (seat s k).stage ≡ stage.Edit t → look (seat s k).drafts n ≡ None → (x : Bool) → other (row s n).lock k ≡ x → (y : Bool) → ltb t (row s n).time ≡ y → (z u : Bool) →
       let p : State × Result Card Refusal = cond x (s, Err why.Held) (cond y (s, Err why.Stale) (cond z (s, Ok (newest s n)) (cond u (with_seat s k (noted (seat s k) n), Ok (newest s n)) (s, Err why.List)))) in
-      FairRead (size s) w n ((account h).desk k) (answered answer.Card p.1)
+      FairRead (size s) w n ((account h).desk k) (told answer.Card p).1
   read_new_fair k n t at un x a y b z u = go x a y b z u
     where
       o : Edits (env (account h) s) (saw h k) ((account h).desk k) (seat s k).reads (seat s k).drafts t
@@ -145,7 +145,7 @@ module _ (h : List Event) (s : State) (i : Inv h s) (w : ℕ → ℕ → Option 
 
       go : (x : Bool) → other (row s n).lock k ≡ x → (y : Bool) → ltb t (row s n).time ≡ y → (z u : Bool) →
           let p : State × Result Card Refusal = cond x (s, Err why.Held) (cond y (s, Err why.Stale) (cond z (s, Ok (newest s n)) (cond u (with_seat s k (noted (seat s k) n), Ok (newest s n)) (s, Err why.List)))) in
-          FairRead (size s) w n ((account h).desk k) (answered answer.Card p.1)
+          FairRead (size s) w n ((account h).desk k) (told answer.Card p).1
       go true a y b z u = declined
       go false a true b z u = declined
       go false a false b true u = right a b
@@ -153,7 +153,7 @@ module _ (h : List Event) (s : State) (i : Inv h s) (w : ℕ → ℕ → Option 
       go false a false b false false = declined
 
   read_edit_fair : (k n t : ℕ) → (seat s k).stage ≡ stage.Edit t → (x : Bool) → (d : Option Card) → look (seat s k).drafts n ≡ d →
-      let p : State × Result Card Refusal = cond x (read_edit s k n t d) (s, Err why.Entry) in FairRead (size s) w n ((account h).desk k) (answered answer.Card p.1)
+      let p : State × Result Card Refusal = cond x (read_edit s k n t d) (s, Err why.Entry) in FairRead (size s) w n ((account h).desk k) (told answer.Card p).1
   read_edit_fair k n t at false d e = let o = at_stage h s i k (stage.Edit t) at in may_decline k n (Drafting t o.0) o.1 tt
   read_edit_fair k n t at true None e = read_new_fair k n t at e (other (row s n).lock k) refl (ltb t (row s n).time) refl (has (seat s k).reads n) (ltb (length (seat s k).reads) 32)
   read_edit_fair k n t at true (Some c) e =
@@ -161,7 +161,7 @@ module _ (h : List Event) (s : State) (i : Inv h s) (w : ℕ → ℕ → Option 
       subst (RightCard w n c) (sym o.1) (sym (ap (λ (x : Option Card). unwrap_or x (card_after w t n)) (sym (o.2 n) ∙ e)))
 
   read_fair : (k n : ℕ) (b : Bool) → ltb k 16 ≡ b → (g : Stage) → (seat s k).stage ≡ g →
-      let p : State × Result Card Refusal = cond b (read_at s k n g) (s, Err why.Seat) in FairRead (size s) w n ((account h).desk k) (answered answer.Card p.1)
+      let p : State × Result Card Refusal = cond b (read_at s k n g) (s, Err why.Seat) in FairRead (size s) w n ((account h).desk k) (told answer.Card p).1
   read_fair k n false lt g at =
       let l : length s.seats ≤ k = rw i.1.sixteen (ltb-false k 16 lt) in
       may_decline k n Free (at_stage h s i k stage.Idle (ap (λ (x : Seat). x.stage) (get_or_past s.seats k idle l))) tt
@@ -195,7 +195,7 @@ module _ (h : List Event) (s : State) (i : Inv h s) (w : ℕ → ℕ → Option 
 
   stamp_locked_fair : (k t : ℕ) → (seat s k).stage ≡ stage.Locked t → (x : Bool) → any_held s.rows k (seat s k).reads ≡ x → (y : Bool) → any_stale s.rows t (seat s k).reads ≡ y → (z u : Bool) →
       let p : State × Result ℕ Refusal = cond x (s, Err why.Held) (cond y (s, Err why.Stale) (cond z (s, Err why.Places) (cond u (s, Err why.Clock) (with_clock (with_seat s k (restaged (seat s k) (stage.Stamped (s.clock + 1) 0))) (s.clock + 1), Ok (s.clock + 1))))) in
-      FairStamp w (account h) (saw h k) ((account h).desk k) (answered answer.Number p.1)
+      FairStamp w (account h) (saw h k) ((account h).desk k) (told answer.Number p).1
   stamp_locked_fair k t at true a y b z u = tt
   stamp_locked_fair k t at false a true b z u = tt
   stamp_locked_fair k t at false a false b true u = tt
@@ -203,7 +203,7 @@ module _ (h : List Event) (s : State) (i : Inv h s) (w : ℕ → ℕ → Option 
   stamp_locked_fair k t at false a false b false false = ((let c = i.1.clock in omega arith), stood k t at a b)
 
   stamp_fair : (k : ℕ) (b : Bool) (g : Stage) → (seat s k).stage ≡ g →
-      let p : State × Result ℕ Refusal = cond b (stamp_at s k g) (s, Err why.Seat) in FairStamp w (account h) (saw h k) ((account h).desk k) (answered answer.Number p.1)
+      let p : State × Result ℕ Refusal = cond b (stamp_at s k g) (s, Err why.Seat) in FairStamp w (account h) (saw h k) ((account h).desk k) (told answer.Number p).1
   stamp_fair k false g at = tt
   stamp_fair k true stage.Idle at = tt
   stamp_fair k true (stage.Proof t) at = tt
@@ -211,11 +211,11 @@ module _ (h : List Event) (s : State) (i : Inv h s) (w : ℕ → ℕ → Option 
   stamp_fair k true (stage.Locked t) at = stamp_locked_fair k t at (any_held s.rows k (seat s k).reads) refl (any_stale s.rows t (seat s k).reads) refl (ltb (s.room s.kept) (unput_all s.seats + length (seat s k).drafts)) (leb 1000000 s.clock)
   stamp_fair k true (stage.Stamped t p) at = tt
 
-  put_left_fair : (k : ℕ) → k < 16 → (t p : ℕ) → (seat s k).stage ≡ stage.Stamped t p → (l : List Draft) → drop p (seat s k).drafts ≡ l → FairPut (answered answer.Number (put_next s k t p l).1)
+  put_left_fair : (k : ℕ) → k < 16 → (t p : ℕ) → (seat s k).stage ≡ stage.Stamped t p → (l : List Draft) → drop p (seat s k).drafts ≡ l → FairPut (told answer.Number (put_next s k t p l)).1
   put_left_fair k lt t p at [] e = inr refl
-  put_left_fair k lt t p at (d ∷ rest) e = subst (λ (o : Option Refusal). FairPut (answered answer.Number (put_draft s k t p d o).1)) (sym (put_taken h s i k lt t p at d rest e)) tt
+  put_left_fair k lt t p at (d ∷ rest) e = subst (λ (o : Option Refusal). FairPut (told answer.Number (put_draft s k t p d o)).1) (sym (put_taken h s i k lt t p at d rest e)) tt
 
-  put_fair : (k : ℕ) (b : Bool) → ltb k 16 ≡ b → (g : Stage) → (seat s k).stage ≡ g → let p : State × Result ℕ Refusal = cond b (put_at s k g) (s, Err why.Seat) in FairPut (answered answer.Number p.1)
+  put_fair : (k : ℕ) (b : Bool) → ltb k 16 ≡ b → (g : Stage) → (seat s k).stage ≡ g → let p : State × Result ℕ Refusal = cond b (put_at s k g) (s, Err why.Seat) in FairPut (told answer.Number p).1
   put_fair k false lt g at = inl refl
   put_fair k true lt stage.Idle at = inr refl
   put_fair k true lt (stage.Proof t) at = inr refl

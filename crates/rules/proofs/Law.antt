@@ -1,5 +1,5 @@
 -- The law, from its form event by event.
-use Rattle.std.proofs.Common.{◌≡◌, ℕ, ◌<◌, ◌≤◌, Bool, true, false, cond, eqb, List, [], ◌∷◌, ◌++◌, Some, None, Option, refl, ap, ◌∙◌, subst, arith}
+use Rattle.std.proofs.Common.{◌≡◌, ℕ, ◌<◌, ◌≤◌, Bool, true, false, cond, eqb, List, [], ◌∷◌, ◌++◌, Some, None, Ok, Err, Option, refl, ap, ◌∙◌, subst, arith}
 use Rattle.cards.specs.declared.card.Card.{Card}
 use Rattle.rules.specs.State.{Draft}
 use Rattle.cards.specs.declared.refusal.Refusal.{Refusal}
@@ -73,9 +73,9 @@ saw_since P k (v ∷ middle) earlier s h =
 
 -- what is read where there is no draft is seen
 saw_here : (P : Draft → Type 0) (k n u : ℕ) (f : ℕ → Option Card) (c : Card) (earlier : List Event) → (account earlier).desk k ≡ Drafting u f → f n ≡ None →
-    All P (saw (event (call.Read k n) (answer.Card c) ∷ earlier) k) → P (record { entry = n; card = c })
+    All P (saw (event (call.Read k n) (Ok (answer.Card c)) ∷ earlier) k) → P (record { entry = n; card = c })
 saw_here P k n u f c earlier d e h =
-    let z : saw (event (call.Read k n) (answer.Card c) ∷ earlier) k ≡ record { entry = n; card = c } ∷ saw earlier k =
+    let z : saw (event (call.Read k n) (Ok (answer.Card c)) ∷ earlier) k ≡ record { entry = n; card = c } ∷ saw earlier k =
     rw (eq-eqb k k refl, d) (ap (saw_undrafted n c (saw earlier k)) e) in
     (subst (All P) z h).0
 
@@ -116,7 +116,7 @@ each_at P [] v earlier a = a.0
 each_at P (x ∷ later) v earlier a = each_at P later v earlier a.1
 
 -- a declined call leaves everything as it was
-declined_same : (s : State) (c : Call) (r : Refusal) → (step s c).1 ≡ answer.Declined r → (step s c).0 ≡ s
+declined_same : (s : State) (c : Call) (r : Refusal) → (step s c).1 ≡ Err r → (step s c).0 ≡ s
 declined_same s c r e = grind arith
 
 -- the clock ends at 1,000,000, so that the refusal is given exactly there
@@ -129,17 +129,17 @@ reached_clock (more {h} {s} c r) = step_clock s c (reached_clock r)
 
 pub law_holds_lem : LawHolds
 law_holds_lem h s r = record {
-  edit_answers_last_time = λ later earlier k t e. at later (event (call.Edit k) (answer.Number t)) earlier e;
-  stamp_answers_next_time = λ later earlier k t e. (at later (event (call.Stamp k) (answer.Number t)) earlier e).0;
-  edit_reads_draft_or_start = λ later earlier k n u f c e d. subst (RightCard (account h).wrote n c) d (at later (event (call.Read k n) (answer.Card c)) earlier e);
+  edit_answers_last_time = λ later earlier k t e. at later (event (call.Edit k) (Ok (answer.Number t))) earlier e;
+  stamp_answers_next_time = λ later earlier k t e. (at later (event (call.Stamp k) (Ok (answer.Number t))) earlier e).0;
+  edit_reads_draft_or_start = λ later earlier k n u f c e d. subst (RightCard (account h).wrote n c) d (at later (event (call.Read k n) (Ok (answer.Card c))) earlier e);
   read_stands_until_stamp = stands;
-  proof_starts_settled = λ later earlier k t e. at later (event (call.Proof k) (answer.Number t)) earlier e;
-  proof_reads_start = λ later earlier k n u c e d. subst (RightCard (account h).wrote n c) d (at later (event (call.Read k n) (answer.Card c)) earlier e);
-  proof_read_granted = λ later earlier k n u q e d. subst (Declinable (size s) n) d (at later (event (call.Read k n) (answer.Declined q)) earlier e);
+  proof_starts_settled = λ later earlier k t e. at later (event (call.Proof k) (Ok (answer.Number t))) earlier e;
+  proof_reads_start = λ later earlier k n u c e d. subst (RightCard (account h).wrote n c) d (at later (event (call.Read k n) (Ok (answer.Card c))) earlier e);
+  proof_read_granted = λ later earlier k n u q e d. subst (Declinable (size s) n) d (at later (event (call.Read k n) (Err q)) earlier e);
   collects_leave_one = swept h s r;
-  put_is_taken = λ later earlier k q e. at later (event (call.Put k) (answer.Declined q)) earlier e;
-  read_needs_open = λ later earlier k n c e. open_read (account h).wrote n c ((account earlier).desk k) (at later (event (call.Read k n) (answer.Card c)) earlier e);
-  stamp_needs_edit = λ later earlier k t e. stood_edits (account h).wrote t (saw earlier k) ((account earlier).desk k) (at later (event (call.Stamp k) (answer.Number t)) earlier e).1;
+  put_is_taken = λ later earlier k q e. at later (event (call.Put k) (Err q)) earlier e;
+  read_needs_open = λ later earlier k n c e. open_read (account h).wrote n c ((account earlier).desk k) (at later (event (call.Read k n) (Ok (answer.Card c))) earlier e);
+  stamp_needs_edit = λ later earlier k t e. stood_edits (account h).wrote t (saw earlier k) ((account earlier).desk k) (at later (event (call.Stamp k) (Ok (answer.Number t))) earlier e).1;
   answer_has_form = λ later earlier c a e. each_at (λ (v : Event). HasForm (form_of v.call) v.answer) later (event c a) earlier (subst (All (λ (v : Event). HasForm (form_of v.call) v.answer)) e (reached_forms r));
   declined_changes_nothing = declined_same s;
   clock_ends = reached_clock r;
@@ -149,12 +149,12 @@ law_holds_lem h s r = record {
     at later v earlier e = fair_at (size s) (account h).wrote later v earlier (subst (Honest (size s) (account h).wrote) e (reached_honest r (account h).wrote (λ t n l. refl)))
 
     stands : (later middle earlier : List Event) (k n t u : ℕ) (f : ℕ → Option Card) (c : Card) →
-        h ≡ later ++ (event (call.Stamp k) (answer.Number t) ∷ (middle ++ (event (call.Read k n) (answer.Card c) ∷ earlier))) → (account earlier).desk k ≡ Drafting u f → f n ≡ None → SameEdit k middle →
+        h ≡ later ++ (event (call.Stamp k) (Ok (answer.Number t)) ∷ (middle ++ (event (call.Read k n) (Ok (answer.Card c)) ∷ earlier))) → (account earlier).desk k ≡ Drafting u f → f n ≡ None → SameEdit k middle →
         (T : ℕ) → u ≤ T → T < t → card_after (account h).wrote T n ≡ c
     stands later middle earlier k n t u f c e d un same =
         let w = (account h).wrote in
-        let read = event (call.Read k n) (answer.Card c) ∷ earlier in
-        let stood = (at later (event (call.Stamp k) (answer.Number t)) (middle ++ read) e).1 in
+        let read = event (call.Read k n) (Ok (answer.Card c)) ∷ earlier in
+        let stood = (at later (event (call.Stamp k) (Ok (answer.Number t))) (middle ++ read) e).1 in
         let v = started w t (saw (middle ++ read) k) ((account (middle ++ read)).desk k) stood in
         let z : start_of ((account earlier).desk k) ≡ Some v.0 = start_since k v.0 middle read same v.1 in
         let y : v.0 ≡ u = same_start v.0 u f ((account earlier).desk k) z d in

@@ -9,7 +9,7 @@ use Rattle.cards.specs.declared.refusal.Refusal.TheVariants as why
 use Rattle.rules.specs.declared.call.Call.TheVariants as call
 use Rattle.rules.specs.declared.answer.Answer.TheVariants as answer
 use Rattle.rules.specs.Rules.{restaged, lock_at}
-use Rattle.rules.specs.Runs.{Event, event, answered}
+use Rattle.rules.specs.Runs.{Event, event, told}
 use Rattle.rules.specs.Account.{account}
 use Rattle.rules.proofs.Saw.{saw}
 use Rattle.rules.proofs.Drafts.{Once}
@@ -19,7 +19,7 @@ use Rattle.rules.proofs.Plainly.{Inv, at_stage, plainly}
 module _ (h : List Event) (s : State) (i : Inv h s) (k : ℕ) where
   lock_editing : k < 16 → (t : ℕ) → (seat s k).stage ≡ stage.Edit t → (x : Bool) → any_held s.rows k (map entry_of (seat s k).drafts) ≡ x →
       let p : State × Result ℕ Refusal = cond x (s, Err why.Held) (with_rows (with_seat s k (restaged (seat s k) (stage.Locked t))) (taken s.rows k (seat s k).drafts), Ok (length (seat s k).drafts)) in
-      Inv (event (call.Lock k) (answered answer.Number p.1) ∷ h) p.0
+      Inv (event (call.Lock k) (told answer.Number p).1 ∷ h) p.0
   lock_editing lt t at true e = i
   lock_editing lt t at false e =
       let o = at_stage h s i k (stage.Edit t) at in
@@ -33,7 +33,7 @@ module _ (h : List Event) (s : State) (i : Inv h s) (k : ℕ) where
       )
 
   pub lock_keeps : (b : Bool) → ltb k 16 ≡ b → (g : Stage) → (seat s k).stage ≡ g →
-      let p : State × Result ℕ Refusal = cond b (lock_at s k g) (s, Err why.Seat) in Inv (event (call.Lock k) (answered answer.Number p.1) ∷ h) p.0
+      let p : State × Result ℕ Refusal = cond b (lock_at s k g) (s, Err why.Seat) in Inv (event (call.Lock k) (told answer.Number p).1 ∷ h) p.0
   lock_keeps false lt g at = i
   lock_keeps true lt stage.Idle at = i
   lock_keeps true lt (stage.Proof t) at = i

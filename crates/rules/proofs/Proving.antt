@@ -9,14 +9,14 @@ use Rattle.cards.specs.declared.refusal.Refusal.TheVariants as why
 use Rattle.rules.specs.declared.call.Call.TheVariants as call
 use Rattle.rules.specs.declared.answer.Answer.TheVariants as answer
 use Rattle.rules.specs.Rules.{staged, proof_at}
-use Rattle.rules.specs.Runs.{Event, event, answered}
+use Rattle.rules.specs.Runs.{Event, event, told}
 use Rattle.rules.specs.Account.{Reading, account}
 use Rattle.rules.proofs.Saw.{saw}
 use Rattle.rules.proofs.Plainly.{Inv, desk_here, desk_other, plainly}
 
 module _ (h : List Event) (s : State) (i : Inv h s) (k : ℕ) where
   pub proof_keeps : (b : Bool) → ltb k 16 ≡ b → (g : Stage) → (seat s k).stage ≡ g →
-      let p : State × Result ℕ Refusal = cond b (proof_at s k g) (s, Err why.Seat) in Inv (event (call.Proof k) (answered answer.Number p.1) ∷ h) p.0
+      let p : State × Result ℕ Refusal = cond b (proof_at s k g) (s, Err why.Seat) in Inv (event (call.Proof k) (told answer.Number p).1 ∷ h) p.0
   proof_keeps false lt g at = i
   proof_keeps true lt (stage.Proof t) at = i
   proof_keeps true lt (stage.Edit t) at = i

@@ -1,5 +1,5 @@
 -- Put keeps the invariant.
-use Rattle.std.proofs.Common.{◌≡◌, ℕ, suc, ◌+◌, ◌<◌, ◌≤◌, Bool, true, false, cond, ltb, ◌⊎◌, List, [], ◌∷◌, length, get_or, drop, set, Some, None, Err, Option, Result, sym, refl, ap, ◌∙◌, subst, inl, inr, arith}
+use Rattle.std.proofs.Common.{◌≡◌, ℕ, suc, ◌+◌, ◌<◌, ◌≤◌, Bool, true, false, cond, ltb, ◌⊎◌, List, [], ◌∷◌, length, get_or, drop, set, Some, None, Ok, Err, Option, Result, sym, refl, ap, ◌∙◌, subst, inl, inr, arith}
 use Rattle.std.proofs.lemmas.Bool.{cases_eq, eqb-false, eq-eqb, ltb-true}
 use Rattle.std.proofs.lemmas.List.{get_or-set_same, get_or-set_other, length-set, drop-drop}
 use Rattle.cards.specs.declared.card.Card.{Card}
@@ -12,7 +12,7 @@ use Rattle.rules.specs.declared.call.Call.TheVariants as call
 use Rattle.rules.specs.declared.answer.Answer.TheVariants as answer
 use Rattle.cards.specs.Versions.{with_card}
 use Rattle.rules.specs.Rules.{put_draft, put_next, put_at, restaged}
-use Rattle.rules.specs.Runs.{Event, event, answered}
+use Rattle.rules.specs.Runs.{Event, event, told}
 use Rattle.rules.specs.Account.{account}
 use Rattle.rules.proofs.Saw.{saw}
 use Rattle.cards.proofs.Somes.{some≢none}
@@ -70,7 +70,7 @@ module _ (h : List Event) (s : State) (i : Inv h s) (k : ℕ) (lt : k < 16) (t p
   right : (m : ℕ) (c : Card) → (m ≡ d.entry → ⊥) → look (drop p (seat s k).drafts) m ≡ Some c → look (drop (p + 1) (seat s k).drafts) m ≡ Some c
   right m c ne q = rw (drop_next p (seat s k).drafts d rest e) (sym (desk_other d.entry m (Some d.card) (look rest m) ne) ∙ (rw e at q))
 
-  put_done : Inv (event (call.Put k) (answer.Number (length (drop (p + 1) (seat s k).drafts))) ∷ h)
+  put_done : Inv (event (call.Put k) (Ok (answer.Number (length (drop (p + 1) (seat s k).drafts)))) ∷ h)
       (with_kept (with_rows (with_seat s k (restaged (seat s k) (stage.Stamped t (p + 1)))) (set s.rows d.entry (record { time = t; lock = None })))
       (with_card s.kept d.entry t d.card))
   put_done = (
@@ -217,14 +217,14 @@ module _ (h : List Event) (s : State) (i : Inv h s) (k : ℕ) (lt : k < 16) (t p
 
 module _ (h : List Event) (s : State) (i : Inv h s) (k : ℕ) where
   put_left : k < 16 → (t p : ℕ) → (seat s k).stage ≡ stage.Stamped t p → (l : List Draft) → drop p (seat s k).drafts ≡ l →
-      let q : State × Result ℕ Refusal = put_next s k t p l in Inv (event (call.Put k) (answered answer.Number q.1) ∷ h) q.0
+      let q : State × Result ℕ Refusal = put_next s k t p l in Inv (event (call.Put k) (told answer.Number q).1 ∷ h) q.0
   put_left lt t p at [] e = i
   put_left lt t p at (d ∷ rest) e =
-      subst (λ (o : Option Refusal). Inv (event (call.Put k) (answered answer.Number (put_draft s k t p d o).1) ∷ h) (put_draft s k t p d o).0)
+      subst (λ (o : Option Refusal). Inv (event (call.Put k) (told answer.Number (put_draft s k t p d o)).1 ∷ h) (put_draft s k t p d o).0)
       (sym (put_taken h s i k lt t p at d rest e)) (put_done h s i k lt t p at d rest e)
 
   pub put_keeps : (b : Bool) → ltb k 16 ≡ b → (g : Stage) → (seat s k).stage ≡ g →
-      let p : State × Result ℕ Refusal = cond b (put_at s k g) (s, Err why.Seat) in Inv (event (call.Put k) (answered answer.Number p.1) ∷ h) p.0
+      let p : State × Result ℕ Refusal = cond b (put_at s k g) (s, Err why.Seat) in Inv (event (call.Put k) (told answer.Number p).1 ∷ h) p.0
   put_keeps false lt g at = i
   put_keeps true lt stage.Idle at = i
   put_keeps true lt (stage.Proof t) at = i

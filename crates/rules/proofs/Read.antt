@@ -14,7 +14,7 @@ use Rattle.rules.specs.declared.answer.Answer.TheVariants as answer
 use Rattle.cards.specs.Versions.{Kept}
 use Rattle.cards.specs.Cards.{blank_card}
 use Rattle.rules.specs.Rules.{newest, noted, read_edit, read_at}
-use Rattle.rules.specs.Runs.{Event, event, answered}
+use Rattle.rules.specs.Runs.{Event, event, told}
 use Rattle.rules.specs.Account.{Drafting, Account, account, card_after}
 use Rattle.rules.proofs.Saw.{saw, saw_desk, saw_undrafted}
 use Rattle.rules.specs.Law.{All}
@@ -52,12 +52,12 @@ module _ (h : List Event) (s : State) (i : Inv h s) (k : ℕ) where
   -- a seat's reading list grows by what it has read
   noting : (n t : ℕ) → k < 16 → (seat s k).stage ≡ stage.Edit t → look (seat s k).drafts n ≡ None → newest s n ≡ card_after (account h).wrote t n →
       (rs : List ℕ) → ((m : ℕ) → has (seat s k).reads m ≡ true → has rs m ≡ true) → has rs n ≡ true →
-      Clauses (account h) (saw (event (call.Read k n) (answer.Card (newest s n)) ∷ h)) i.0 (with_seat s k (record { stage = (seat s k).stage; reads = rs; drafts = (seat s k).drafts }))
+      Clauses (account h) (saw (event (call.Read k n) (Ok (answer.Card (newest s n))) ∷ h)) i.0 (with_seat s k (record { stage = (seat s k).stage; reads = rs; drafts = (seat s k).drafts }))
   noting n t lt at undrafted right rs more new =
       let o = at_stage h s i k (stage.Edit t) at in
-      plainly h s i k lt (stage.Edit t) at tt (record { stage = (seat s k).stage; reads = rs; drafts = (seat s k).drafts }) s.rows (account h).desk (saw (event (call.Read k n) (answer.Card (newest s n)) ∷ h)) (subst Plain (sym at) tt)
+      plainly h s i k lt (stage.Edit t) at tt (record { stage = (seat s k).stage; reads = rs; drafts = (seat s k).drafts }) s.rows (account h).desk (saw (event (call.Read k n) (Ok (answer.Card (newest s n))) ∷ h)) (subst Plain (sym at) tt)
       (λ j ne. refl) (λ j ne. desk_other k j (saw_desk n (newest s n) (saw h j) ((account h).desk j)) (saw h j) ne) refl (λ m. refl) (λ m j ne l. l)
-      (λ r l. subst (λ (g : Stage). SeatAt (record { total = size s; clock = s.clock; ready = r; rows = row s; wrote = (account h).wrote; settled = (account h).settled }) k (saw (event (call.Read k n) (answer.Card (newest s n)) ∷ h) k) ((account h).desk k) rs (seat s k).drafts g) (sym at) (
+      (λ r l. subst (λ (g : Stage). SeatAt (record { total = size s; clock = s.clock; ready = r; rows = row s; wrote = (account h).wrote; settled = (account h).settled }) k (saw (event (call.Read k n) (Ok (answer.Card (newest s n))) ∷ h) k) ((account h).desk k) rs (seat s k).drafts g) (sym at) (
         o.0,
         o.1,
         o.2,
@@ -75,12 +75,12 @@ module _ (h : List Event) (s : State) (i : Inv h s) (k : ℕ) where
   read_undrafted : (n t : ℕ) → k < 16 → (seat s k).stage ≡ stage.Edit t → look (seat s k).drafts n ≡ None →
       (x : Bool) → other (row s n).lock k ≡ x → (y : Bool) → ltb t (row s n).time ≡ y → (z : Bool) → has (seat s k).reads n ≡ z → (w : Bool) →
       let p : State × Result Card Refusal = cond x (s, Err why.Held) (cond y (s, Err why.Stale) (cond z (s, Ok (newest s n)) (cond w (with_seat s k (noted (seat s k) n), Ok (newest s n)) (s, Err why.List)))) in
-      Inv (event (call.Read k n) (answered answer.Card p.1) ∷ h) p.0
+      Inv (event (call.Read k n) (told answer.Card p).1 ∷ h) p.0
   read_undrafted n t lt at un true a y b z c w = i
   read_undrafted n t lt at un false a true b z c w = i
   read_undrafted n t lt at un false a false b true c w = (
     i.0,
-    subst (λ (xs : List Seat). Clauses (account h) (saw (event (call.Read k n) (answer.Card (newest s n)) ∷ h)) i.0
+    subst (λ (xs : List Seat). Clauses (account h) (saw (event (call.Read k n) (Ok (answer.Card (newest s n))) ∷ h)) i.0
         (record { letters = s.letters; marks = s.marks; pairs = s.pairs; seats = xs; rows = s.rows; clock = s.clock; kept = s.kept; room = s.room; says = s.says }))
         (set-get_or s.seats k idle) (noting n t lt at un (read_card n t at a b) (seat s k).reads (λ m q. q) c),
   )
@@ -89,7 +89,7 @@ module _ (h : List Event) (s : State) (i : Inv h s) (k : ℕ) where
       (i.0, noting n t lt at un (read_card n t at a b) ((seat s k).reads ++ n ∷ []) (has_more (seat s k).reads n) (has_new (seat s k).reads n))
 
   read_drafted : (n t : ℕ) → k < 16 → (seat s k).stage ≡ stage.Edit t → (x : Bool) → (d : Option Card) → look (seat s k).drafts n ≡ d →
-      let p : State × Result Card Refusal = cond x (read_edit s k n t d) (s, Err why.Entry) in Inv (event (call.Read k n) (answered answer.Card p.1) ∷ h) p.0
+      let p : State × Result Card Refusal = cond x (read_edit s k n t d) (s, Err why.Entry) in Inv (event (call.Read k n) (told answer.Card p).1 ∷ h) p.0
   read_drafted n t lt at false d e = i
   read_drafted n t lt at true None e = read_undrafted n t lt at e (other (row s n).lock k) refl (ltb t (row s n).time) refl (has (seat s k).reads n) refl (ltb (length (seat s k).reads) 32)
   read_drafted n t lt at true (Some c) e =
@@ -97,12 +97,12 @@ module _ (h : List Event) (s : State) (i : Inv h s) (k : ℕ) where
       (i.0, saw_same (account h) _ (saw h) i.0 s (saw_kept n c (rw o.1 (ap (saw_undrafted n c (saw h k)) (sym (o.2 n) ∙ e)))) i.1)
 
   read_proving : (n t : ℕ) → (seat s k).stage ≡ stage.Proof t → (x : Bool) (c : Card) →
-      let p : State × Result Card Refusal = cond x (s, Ok c) (s, Err why.Entry) in Inv (event (call.Read k n) (answered answer.Card p.1) ∷ h) p.0
+      let p : State × Result Card Refusal = cond x (s, Ok c) (s, Err why.Entry) in Inv (event (call.Read k n) (told answer.Card p).1 ∷ h) p.0
   read_proving n t at false c = i
   read_proving n t at true c = (i.0, saw_same (account h) _ (saw h) i.0 s (saw_kept n c (rw (at_stage h s i k (stage.Proof t) at).0)) i.1)
 
   pub read_keeps : (n : ℕ) (b : Bool) → ltb k 16 ≡ b → (g : Stage) → (seat s k).stage ≡ g →
-      let p : State × Result Card Refusal = cond b (read_at s k n g) (s, Err why.Seat) in Inv (event (call.Read k n) (answered answer.Card p.1) ∷ h) p.0
+      let p : State × Result Card Refusal = cond b (read_at s k n g) (s, Err why.Seat) in Inv (event (call.Read k n) (told answer.Card p).1 ∷ h) p.0
   read_keeps n false lt g at = i
   read_keeps n true lt stage.Idle at = i
   read_keeps n true lt (stage.Proof t) at = read_proving n t at (ltb n (size s)) (unwrap_or (latest (s.kept n) t) blank_card)

@@ -1,6 +1,7 @@
 -- What an edit has read where it had no draft.
-use Rattle.std.proofs.Common.{ℕ, cond, eqb, List, [], ◌∷◌, Some, None, Option}
+use Rattle.std.proofs.Common.{ℕ, cond, eqb, List, [], ◌∷◌, Some, None, Ok, Err, Option, Result}
 use Rattle.cards.specs.declared.card.Card.{Card}
+use Rattle.cards.specs.declared.refusal.Refusal.{Refusal}
 use Rattle.rules.specs.State.{Draft}
 use Rattle.rules.specs.declared.call.Call.{Call}
 use Rattle.rules.specs.declared.call.Call.TheVariants as call
@@ -21,11 +22,11 @@ saw_desk n c old (Reading t) = old
 saw_desk n c old (Drafting t f) = saw_undrafted n c old (f n)
 saw_desk n c old (Given t) = old
 
-abbrev pub card_of : Answer → Card
-card_of (answer.Number t) = blank_card
-card_of (answer.Card c) = c
-card_of answer.Done = blank_card
-card_of (answer.Declined r) = blank_card
+abbrev pub card_of : Result Answer Refusal → Card
+card_of (Ok (answer.Number t)) = blank_card
+card_of (Ok (answer.Card c)) = c
+card_of (Ok answer.Done) = blank_card
+card_of (Err r) = blank_card
 
 abbrev pub saw_by : (ℕ → List Draft) → (ℕ → Desk) → Call → Card → ℕ → List Draft
 saw_by old desk (call.Proof k) x j = old j

@@ -10,7 +10,7 @@ use Rattle.cards.specs.declared.refusal.Refusal.TheVariants as why
 use Rattle.rules.specs.declared.call.Call.TheVariants as call
 use Rattle.rules.specs.declared.answer.Answer.TheVariants as answer
 use Rattle.rules.specs.Rules.{settle_at}
-use Rattle.rules.specs.Runs.{Event, event, answered}
+use Rattle.rules.specs.Runs.{Event, event, told}
 use Rattle.rules.specs.Account.{Desk, Free, account, settle_desk}
 use Rattle.rules.proofs.Saw.{saw}
 use Rattle.cards.proofs.Somes.{some≢none}
@@ -22,7 +22,7 @@ module _ (h : List Event) (s : State) (i : Inv h s) (k : ℕ) where
   -- what settles is on no other seat
   settle_stamped : k < 16 → (t p : ℕ) → (seat s k).stage ≡ stage.Stamped t p → (x : Bool) → ltb p (length (seat s k).drafts) ≡ x → (y : Bool) → ltb (ready s) t ≡ y →
       let q : State × Result ℕ Refusal = cond x (s, Err why.Unput) (cond y (s, Err why.Waiting) (with_seat s k idle, Ok t)) in
-      Inv (event (call.Settle k) (answered answer.Number q.1) ∷ h) q.0
+      Inv (event (call.Settle k) (told answer.Number q).1 ∷ h) q.0
   settle_stamped lt t p at true e y f = i
   settle_stamped lt t p at false e true f = i
   settle_stamped lt t p at false e false f =
@@ -56,7 +56,7 @@ module _ (h : List Event) (s : State) (i : Inv h s) (k : ℕ) where
       go u false q w = i.1.settled u w
 
   pub settle_keeps : (b : Bool) → ltb k 16 ≡ b → (g : Stage) → (seat s k).stage ≡ g →
-      let p : State × Result ℕ Refusal = cond b (settle_at s k g) (s, Err why.Seat) in Inv (event (call.Settle k) (answered answer.Number p.1) ∷ h) p.0
+      let p : State × Result ℕ Refusal = cond b (settle_at s k g) (s, Err why.Seat) in Inv (event (call.Settle k) (told answer.Number p).1 ∷ h) p.0
   settle_keeps false lt g at = i
   settle_keeps true lt stage.Idle at = i
   settle_keeps true lt (stage.Proof t) at = i

@@ -11,7 +11,7 @@ use Rattle.cards.specs.declared.refusal.Refusal.TheVariants as why
 use Rattle.rules.specs.declared.call.Call.TheVariants as call
 use Rattle.rules.specs.declared.answer.Answer.TheVariants as answer
 use Rattle.rules.specs.Rules.{stamp_at, restaged}
-use Rattle.rules.specs.Runs.{Event, event, answered}
+use Rattle.rules.specs.Runs.{Event, event, told}
 use Rattle.rules.specs.Account.{stamp_desk, Desk, Given, account}
 use Rattle.rules.proofs.Saw.{saw}
 use Rattle.rules.proofs.Drafts.{all_set, unput_set, look_below}
@@ -39,7 +39,7 @@ module _ (h : List Event) (s : State) (i : Inv h s) (k : ℕ) where
       go (stage.Stamped u p) o w = let l = o.3 in omega arith
 
   stamped : k < 16 → (t : ℕ) → (seat s k).stage ≡ stage.Locked t → ltb (s.room s.kept) (unput_all s.seats + length (seat s k).drafts) ≡ false →
-      Inv (event (call.Stamp k) (answer.Number (s.clock + 1)) ∷ h) (with_clock (with_seat s k (restaged (seat s k) (stage.Stamped (s.clock + 1) 0))) (s.clock + 1))
+      Inv (event (call.Stamp k) (Ok (answer.Number (s.clock + 1))) ∷ h) (with_clock (with_seat s k (restaged (seat s k) (stage.Stamped (s.clock + 1) 0))) (s.clock + 1))
   stamped lt t at fit = (
     i.0,
     subst (λ (d : Desk). Clauses (stamp_desk (account h) k d) (saw h) i.0 (with_clock (with_seat s k y) (s.clock + 1))) (sym o.0.1)
@@ -147,7 +147,7 @@ module _ (h : List Event) (s : State) (i : Inv h s) (k : ℕ) where
   stamp_locked : k < 16 → (t : ℕ) → (seat s k).stage ≡ stage.Locked t → (x y z : Bool) → ltb (s.room s.kept) (unput_all s.seats + length (seat s k).drafts) ≡ z → (w : Bool) →
       let p : State × Result ℕ Refusal = cond x (s, Err why.Held) (cond y (s, Err why.Stale) (cond z (s, Err why.Places) (cond w (s, Err why.Clock)
       (with_clock (with_seat s k (restaged (seat s k) (stage.Stamped (s.clock + 1) 0))) (s.clock + 1), Ok (s.clock + 1))))) in
-      Inv (event (call.Stamp k) (answered answer.Number p.1) ∷ h) p.0
+      Inv (event (call.Stamp k) (told answer.Number p).1 ∷ h) p.0
   stamp_locked lt t at true y z e w = i
   stamp_locked lt t at false true z e w = i
   stamp_locked lt t at false false true e w = i
@@ -155,7 +155,7 @@ module _ (h : List Event) (s : State) (i : Inv h s) (k : ℕ) where
   stamp_locked lt t at false false false e false = stamped lt t at e
 
   pub stamp_keeps : (b : Bool) → ltb k 16 ≡ b → (g : Stage) → (seat s k).stage ≡ g →
-      let p : State × Result ℕ Refusal = cond b (stamp_at s k g) (s, Err why.Seat) in Inv (event (call.Stamp k) (answered answer.Number p.1) ∷ h) p.0
+      let p : State × Result ℕ Refusal = cond b (stamp_at s k g) (s, Err why.Seat) in Inv (event (call.Stamp k) (told answer.Number p).1 ∷ h) p.0
   stamp_keeps false lt g at = i
   stamp_keeps true lt stage.Idle at = i
   stamp_keeps true lt (stage.Proof t) at = i

@@ -12,7 +12,7 @@ use Rattle.rules.specs.declared.answer.Answer.TheVariants as answer
 use Rattle.cards.specs.Cards.{blank_card}
 use Rattle.rules.specs.State.{after, floor, State, size, seat, row, latest, ready}
 use Rattle.rules.specs.Rules.{collect_next, collect_oldest}
-use Rattle.rules.specs.Runs.{step, Event, answered, Reached, new, more}
+use Rattle.rules.specs.Runs.{step, Event, told, Reached, new, more}
 use Rattle.rules.specs.Account.{fed, granted, number, Account, account, card_after}
 use Rattle.rules.proofs.Saw.{saw}
 use Rattle.rules.specs.Law.{Shut, Quiet, IsCollect, Collects, Declined, OneLeft}
@@ -61,10 +61,10 @@ module _ (h : List Event) (s : State) (i : Inv h s) (q : Quiet (account h)) wher
   held_in n t c e = let z = i.1.wrote_in t n c (i.1.put_wrote n t c (i.1.only n t c e)) in (z.0, (let l = z.1 in let f = floor_clock in omega arith), z.2)
 
   -- a declined collect leaves one version at most
-  declined_single : (n : ℕ) (r : Refusal) → (step s (call.Collect n)).1 ≡ answer.Declined r → Single (s.kept n)
+  declined_single : (n : ℕ) (r : Refusal) → (step s (call.Collect n)).1 ≡ Err r → Single (s.kept n)
   declined_single n r e = go (ltb n (size s)) refl (after (s.kept n) 0 (floor s)) refl e
     where
-      next : (t : ℕ) → after (s.kept n) 0 (floor s) ≡ Some t → (y : Option ℕ) → after (s.kept n) t (floor s) ≡ y → answered answer.Number (collect_next s n t y).1 ≡ answer.Declined r → Single (s.kept n)
+      next : (t : ℕ) → after (s.kept n) 0 (floor s) ≡ Some t → (y : Option ℕ) → after (s.kept n) t (floor s) ≡ y → (told answer.Number (collect_next s n t y)).1 ≡ Err r → Single (s.kept n)
       next t a (Some f) b e = let z : ◌≡◌ {A = ℕ} 0 1 = cc in absurd (omega arith)
       next t a None b e = λ u v c d p q. only u c p ∙ sym (only v d q)
         where
@@ -77,7 +77,7 @@ module _ (h : List Event) (s : State) (i : Inv h s) (q : Quiet (account h)) wher
               at (inr (inr x)) = absurd (some≢none _ c p (after_none (s.kept n) t (floor s) b u x (held_in n u c p).1))
 
       go : (b : Bool) → ltb n (size s) ≡ b → (x : Option ℕ) → after (s.kept n) 0 (floor s) ≡ x →
-          let p : State × Result ℕ Refusal = cond b (collect_oldest s n x) (s, Err why.Entry) in answered answer.Number p.1 ≡ answer.Declined r → Single (s.kept n)
+          let p : State × Result ℕ Refusal = cond b (collect_oldest s n x) (s, Err why.Entry) in (told answer.Number p).1 ≡ Err r → Single (s.kept n)
       go false l x a e = λ u v c d p q. let z = (held_in n u c p).2 in let w = ltb-false n (size s) l in absurd (omega arith)
       go true l None a e = λ u v c d p q. absurd (some≢none _ c p (after_none (s.kept n) 0 (floor s) a u (held_in n u c p).0 (held_in n u c p).1))
       go true l (Some t) a e = next t a (after (s.kept n) t (floor s)) refl e
@@ -159,7 +159,7 @@ sweep (v ∷ later) earlier s r q c =
     single t r e rest n (inr d) = rest.1 n d
     single t r e rest n (inl d) =
         declined_single (later ++ earlier) t (reached_inv r) (subst Quiet (sym rest.0) q) n d.1.0
-        (subst (λ (x : Call). (step t x).1 ≡ answer.Declined d.1.0) d.0 (sym e ∙ d.1.1))
+        (subst (λ (x : Call). (step t x).1 ≡ Err d.1.0) d.0 (sym e ∙ d.1.1))
 
 pub swept : (h : List Event) (s : State) → Reached h s → (later earlier : List Event) → h ≡ later ++ earlier → Quiet (account earlier) → Collects later → ((n : ℕ) → n < size s → Declined n later) → (n : ℕ) → OneLeft (account h) (s.kept n) n
 swept h s r = λ later earlier e q c d n.

@@ -9,7 +9,7 @@ use Rattle.cards.specs.declared.refusal.Refusal.{Refusal}
 use Rattle.cards.specs.declared.refusal.Refusal.TheVariants as why
 use Rattle.rules.specs.declared.call.Call.TheVariants as call
 use Rattle.rules.specs.Rules.{fits, drafted, write_at}
-use Rattle.rules.specs.Runs.{Event, event, answered, done}
+use Rattle.rules.specs.Runs.{Event, event, told, done}
 use Rattle.rules.specs.Account.{Drafting, account, write_desk}
 use Rattle.rules.proofs.Saw.{saw}
 use Rattle.rules.proofs.Drafts.{look_written, once_written}
@@ -21,7 +21,7 @@ use Rattle.rules.proofs.Plainly.{Inv, desk_here, desk_other, at_stage, plainly}
 module _ (h : List Event) (s : State) (i : Inv h s) (k : ℕ) where
   write_editing : (n : ℕ) (c : Card) → k < 16 → (t : ℕ) → (seat s k).stage ≡ stage.Edit t → (x : Bool) → ltb n (size s) ≡ x → (y z : Bool) →
       let p : State × Result (Unit {0}) Refusal = cond x (cond y (cond z (with_seat s k (drafted (seat s k) n c), Ok tt) (s, Err why.List)) (s, Err why.Misfit)) (s, Err why.Entry) in
-      Inv (event (call.Write k n c) (answered done p.1) ∷ h) p.0
+      Inv (event (call.Write k n c) (told done p).1 ∷ h) p.0
   write_editing n c lt t at false e y z = i
   write_editing n c lt t at true e false z = i
   write_editing n c lt t at true e true false = i
@@ -43,7 +43,7 @@ module _ (h : List Event) (s : State) (i : Inv h s) (k : ℕ) where
       )
 
   pub write_keeps : (n : ℕ) (c : Card) (b : Bool) → ltb k 16 ≡ b → (g : Stage) → (seat s k).stage ≡ g →
-      let p : State × Result (Unit {0}) Refusal = cond b (write_at s k n c g) (s, Err why.Seat) in Inv (event (call.Write k n c) (answered done p.1) ∷ h) p.0
+      let p : State × Result (Unit {0}) Refusal = cond b (write_at s k n c g) (s, Err why.Seat) in Inv (event (call.Write k n c) (told done p).1 ∷ h) p.0
   write_keeps n c false lt g at = i
   write_keeps n c true lt stage.Idle at = i
   write_keeps n c true lt (stage.Proof t) at = i
