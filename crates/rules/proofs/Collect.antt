@@ -1,13 +1,13 @@
 -- Collect keeps the invariant.
-use Rattle.std.proofs.Common.{◌≡◌, ℕ, Bool, true, cond, ◌⊎◌, List, ◌∷◌, Some, None, Ok, Err, Option, sym, refl, ◌∙◌, inl, inr, arith}
+use Rattle.std.proofs.Common.{◌≡◌, ℕ, Bool, true, cond, ◌⊎◌, List, Some, None, Err, Option, sym, refl, ◌∙◌, inl, inr, arith}
 use Rattle.cards.specs.declared.card.Card.{Card}
-use Rattle.rules.specs.State.{floor, after, with_kept, State, ready}
+use Rattle.rules.specs.State.{floor, after, State, ready}
 use Rattle.cards.specs.declared.refusal.Refusal.TheVariants as why
 use Rattle.rules.specs.declared.call.Call.TheVariants as call
 use Rattle.rules.specs.declared.answer.Answer.TheVariants as answer
 use Rattle.cards.specs.Versions.{without}
 use Rattle.rules.specs.Rules.{collect_next, collect_oldest}
-use Rattle.rules.specs.Runs.{Event, event, told}
+use Rattle.rules.specs.Runs.{Event, told}
 use Rattle.rules.proofs.Ready.{floor_le, floor_off}
 use Rattle.rules.proofs.Inv.{Gone}
 use Rattle.cards.proofs.Counts.{without_other}
@@ -15,7 +15,7 @@ use Rattle.rules.proofs.Versions.{cases_two, after_some}
 use Rattle.rules.proofs.Plainly.{Inv, Keeps}
 
 module _ (h : List Event) (s : State) (i : Inv h s) (n : ℕ) where
-  collected : (t f : ℕ) → after (s.kept n) t (floor s) ≡ Some f → Inv (event (call.Collect n) (Ok (answer.Number t)) ∷ h) (with_kept s (without s.kept n t))
+  collected : (t f : ℕ) → after (s.kept n) t (floor s) ≡ Some f → Keeps h (call.Collect n) (told answer.Number (collect_next s n t (Some f)))
   collected t f e = (
     i.0,
     record {
@@ -32,15 +32,12 @@ module _ (h : List Event) (s : State) (i : Inv h s) (n : ℕ) where
       wrote_put = i.1.wrote_put;
       row_top = i.1.row_top;
       row_in = i.1.row_in;
-      only = λ m u c q. still m u c q (cases_two n t m u);
+      only = λ m u c q. let o = i.1.only m u c in grind arith;
       keeps = λ m u c p q. gone m u c p q (cases_two n t m u);
       room = let l = i.1.room in let r = i.1.lawful.removes s.kept n t in omega arith;
     },
   )
     where
-      still : (m u : ℕ) (c : Card) → without s.kept n t m u ≡ Some c → ((m ≡ n) × (u ≡ t)) ⊎ (m ≡ n → u ≡ t → ⊥) → i.0 m u ≡ Some c
-      still m u c q w = let o = i.1.only m u c in grind arith
-
       gone : (m u : ℕ) (c : Card) → i.0 m u ≡ Some c → without s.kept n t m u ≡ None → ((m ≡ n) × (u ≡ t)) ⊎ (m ≡ n → u ≡ t → ⊥) → Gone (i.0 m) (ready s) s.seats u
       gone m u c p q (inr w) = i.1.keeps m u c p (sym (without_other s.kept n t m u w) ∙ q)
       gone m u c p q (inl w) =

@@ -1,6 +1,6 @@
 -- The law of every run.
 use Rattle.std.proofs.Common.{◌≡◌, ℕ, zero, suc, ◌+◌, ◌<◌, ◌≤◌, Bool, true, false, cond, ltb, leb, List, [], ◌∷◌, length, get_or, drop, replicate, Some, None, Ok, Err, Option, unwrap_or, sym, refl, ap, ◌∙◌, subst, inl, inr, arith}
-use Rattle.std.proofs.lemmas.Bool.{ltb-true, ltb-false, both_ways}
+use Rattle.std.proofs.lemmas.Bool.{ltb-true, ltb-false}
 use Rattle.std.proofs.lemmas.List.{get_or_past}
 use Rattle.cards.specs.declared.card.Card.{Card}
 use Rattle.rules.specs.State.{Draft}
@@ -17,7 +17,6 @@ use Rattle.rules.specs.Account.{fed, granted, number, Account, account, card_aft
 use Rattle.rules.proofs.Saw.{saw}
 use Rattle.rules.proofs.Fair.{FairProof, FairEdit, FairRead, FairStamp, FairPut, RightCard, Declinable, Stood, Fair, Honest, From}
 use Rattle.rules.proofs.Latest.{card_same, card_flat}
-use Rattle.cards.proofs.Somes.{some≢none}
 use Rattle.rules.proofs.Ready.{ready_le, NoProof}
 use Rattle.rules.proofs.Inv.{proof_card, flat, Seen, unlocked_put}
 use Rattle.rules.proofs.Reseat.{all_map}
@@ -57,14 +56,14 @@ fresh_inv s f = (
     clock = sym f.clock;
     seated = λ k. rw (at k) refl;
     apart = λ j k t u v. absurd (rw (at j) at u);
-    settled = λ t u. absurd (both_ways false refl u);
-    wrote_in = λ t n c u. absurd (some≢none _ c u refl);
-    put_wrote = λ n t c u. absurd (some≢none _ c u refl);
-    wrote_put = λ n t c u v. absurd (some≢none _ c u refl);
-    row_top = λ n t c u. absurd (some≢none _ c u refl);
+    settled = λ t u. grind arith;
+    wrote_in = λ t n c u. grind arith;
+    put_wrote = λ n t c u. grind arith;
+    wrote_put = λ n t c u v. grind arith;
+    row_top = λ n t c u. grind arith;
     row_in = λ n. inl (rw (row_at n) refl);
-    only = λ n t c u. absurd (some≢none _ c u (f.kept n t));
-    keeps = λ n t c u v. absurd (some≢none _ c u refl);
+    only = λ n t c u. let k = f.kept n t in grind arith;
+    keeps = λ n t c u v. grind arith;
     room = rw f.seats (omega arith);
   },
 )
@@ -118,17 +117,13 @@ module _ (h : List Event) (s : State) (i : Inv h s) (w : ℕ → ℕ → Option 
   edit_right : (k n t : ℕ) (c : Card) → (seat s k).stage ≡ stage.Edit t → c ≡ unwrap_or (look (seat s k).drafts n) (card_after w t n) → RightCard w n c ((account h).desk k)
   edit_right k n t c at e = let o = at_stage h s i k (stage.Edit t) at in rw (o.1, sym (o.2 n)) e
 
+  newest_right : (k n t : ℕ) → (seat s k).stage ≡ stage.Edit t → look (seat s k).drafts n ≡ None → other (row s n).lock k ≡ false → ltb t (row s n).time ≡ false → RightCard w n (newest s n) ((account h).desk k)
+  newest_right k n t at un a b = edit_right k n t (newest s n) at (rw un (read_card h s i k n t at a b ∙ sym (card_whole t n (at_stage h s i k (stage.Edit t) at).4)))
+
   read_new_fair : (k n t : ℕ) → (seat s k).stage ≡ stage.Edit t → look (seat s k).drafts n ≡ None → (x : Bool) → other (row s n).lock k ≡ x → (y : Bool) → ltb t (row s n).time ≡ y → (z u : Bool) →
       FairRead (size s) w n ((account h).desk k) (told answer.Card (tested s k n x y z u)).1
-  read_new_fair k n t at un false a false b z u = go z u
-    where
-      right : RightCard w n (newest s n) ((account h).desk k)
-      right = edit_right k n t (newest s n) at (rw un (read_card h s i k n t at a b ∙ sym (card_whole t n (at_stage h s i k (stage.Edit t) at).4)))
-
-      go : (z u : Bool) → FairRead (size s) w n ((account h).desk k) (told answer.Card (tested s k n false false z u)).1
-      go true u = right
-      go false true = right
-      go false false = may_decline k n (stage.Edit t) at tt
+  read_new_fair k n t at un false a false b true u = newest_right k n t at un a b
+  read_new_fair k n t at un false a false b false true = newest_right k n t at un a b
   read_new_fair k n t at un x a y b z u = may_decline k n (stage.Edit t) at tt
 
   read_edit_fair : (k n t : ℕ) → (seat s k).stage ≡ stage.Edit t → (x : Bool) → (d : Option Card) → look (seat s k).drafts n ≡ d →

@@ -1,16 +1,16 @@
 -- Put keeps the invariant.
-use Rattle.std.proofs.Common.{◌≡◌, ℕ, suc, ◌+◌, ◌<◌, ◌≤◌, ◌⊎◌, List, [], ◌∷◌, length, get_or, drop, set, Some, None, Ok, sym, refl, ap, ◌∙◌, inl, inr, arith}
+use Rattle.std.proofs.Common.{◌≡◌, ℕ, suc, ◌+◌, ◌<◌, ◌≤◌, ◌⊎◌, List, [], ◌∷◌, length, get_or, drop, set, Some, None, sym, refl, ap, ◌∙◌, inl, inr, arith}
 use Rattle.std.proofs.lemmas.Bool.{cases_eq, eq-eqb}
 use Rattle.std.proofs.lemmas.List.{get_or-set_same, get_or-set_other, length-set, drop-drop}
 use Rattle.cards.specs.declared.card.Card.{Card}
-use Rattle.rules.specs.State.{Draft, with_kept, ready_of, Seat, idle, Row, free_row, State, size, seat, row, look, ready, unput_all, with_seat, with_rows}
+use Rattle.rules.specs.State.{Draft, ready_of, Seat, idle, Row, free_row, State, size, seat, row, look, ready, unput_all}
 use Rattle.rules.specs.declared.stage.Stage.{Stage}
 use Rattle.rules.specs.declared.stage.Stage.TheVariants as stage
 use Rattle.rules.specs.declared.call.Call.TheVariants as call
 use Rattle.rules.specs.declared.answer.Answer.TheVariants as answer
 use Rattle.cards.specs.Versions.{with_card}
-use Rattle.rules.specs.Rules.{put_next, put_at, restaged}
-use Rattle.rules.specs.Runs.{Event, event, told}
+use Rattle.rules.specs.Rules.{put_draft, put_next, put_at, restaged}
+use Rattle.rules.specs.Runs.{Event, told}
 use Rattle.rules.specs.Account.{account}
 use Rattle.rules.proofs.Saw.{saw}
 use Rattle.cards.proofs.Somes.{some≢none}
@@ -68,9 +68,7 @@ module _ (h : List Event) (s : State) (i : Inv h s) (k : ℕ) (lt : k < 16) (t p
   right : (m : ℕ) (c : Card) → (m ≡ d.entry → ⊥) → look (drop p (seat s k).drafts) m ≡ Some c → look (drop (p + 1) (seat s k).drafts) m ≡ Some c
   right m c ne q = let n = drop_next p (seat s k).drafts d rest e in grind arith
 
-  put_done : Inv (event (call.Put k) (Ok (answer.Number (length (drop (p + 1) (seat s k).drafts)))) ∷ h)
-      (with_kept (with_rows (with_seat s k (restaged (seat s k) (stage.Stamped t (p + 1)))) (set s.rows d.entry (record { time = t; lock = None })))
-      (with_card s.kept d.entry t d.card))
+  put_done : Keeps h (call.Put k) (told answer.Number (put_draft s k t p d None))
   put_done = (
     with_card i.0 n t c,
     record {
@@ -83,11 +81,11 @@ module _ (h : List Event) (s : State) (i : Inv h s) (k : ℕ) (lt : k < 16) (t p
       apart = λ j l u v w. i.1.apart j l u (old u j v) (old u l w);
       settled = λ u w. let l = i.1.settled u w in let m = rises in omega arith;
       wrote_in = i.1.wrote_in;
-      put_wrote = λ m u b q. wrote m u b q (cases_two n t m u);
+      put_wrote = λ m u b q. let o = i.1.put_wrote m u b in let d = put_facts.4 n in let z = look_drop (size s) p (seat s k).drafts put_facts.5 n c first in grind arith;
       wrote_put = λ m u b q r. waits m u b q r (cases_two n t m u);
-      row_top = λ m u b q. top m u b q (cases_eq m n) (cases_two n t m u);
+      row_top = λ m u b q. let z = i.1.row_top m u b in let l = above in let e = same_row m in let r = get_or-set_same s.rows n new free_row in_rows in grind arith;
       row_in = λ m. newest m (cases_eq m n);
-      only = λ m u b q. only m u b q (cases_two n t m u);
+      only = λ m u b q. let o = i.1.only m u b in grind arith;
       keeps = λ m u b q r. gone m u b q r (cases_two n t m u);
       room = let z = unput_set s.seats k y in_seats in let m = was in let w = ap length (drop_next p (seat s k).drafts d rest e) in let l = i.1.room in let v = i.1.lawful.adds s.kept n t c in omega arith;
     },
@@ -148,11 +146,8 @@ module _ (h : List Event) (s : State) (i : Inv h s) (k : ℕ) (lt : k < 16) (t p
       old : (u j : ℕ) → Stamps u (get_or seats' j idle).stage → Stamps u (seat s j).stage
       old u = all_set (λ (j : ℕ) (x : Seat). Stamps u x.stage → Stamps u (seat s j).stage) s.seats k y in_seats (λ j ne w. w) (λ w. rw at w)
 
-      wrote : (m u : ℕ) (b : Card) → with_card i.0 n t c m u ≡ Some b → ((m ≡ n) × (u ≡ t)) ⊎ (m ≡ n → u ≡ t → ⊥) → (account h).wrote u m ≡ Some b
-      wrote m u b q w = let o = i.1.put_wrote m u b in let d = put_facts.4 n in let z = look_drop (size s) p (seat s k).drafts put_facts.5 n c first in grind arith
-
       waits : (m u : ℕ) (b : Card) → (account h).wrote u m ≡ Some b → with_card i.0 n t c m u ≡ None → ((m ≡ n) × (u ≡ t)) ⊎ (m ≡ n → u ≡ t → ⊥) → (j : ℕ) × Waits m u (get_or seats' j idle)
-      waits m u b q r (inl w) = absurd (some≢none _ c (with_same i.0 n t c m u w.0 w.1) r)
+      waits m u b q r (inl w) = grind arith
       waits m u b q r (inr w) = go (i.1.wrote_put m u b q (sym (with_other i.0 n t c m u w) ∙ r))
         where
           go : (j : ℕ) × Waits m u (seat s j) → (j : ℕ) × Waits m u (get_or seats' j idle)
@@ -164,19 +159,12 @@ module _ (h : List Event) (s : State) (i : Inv h s) (k : ℕ) (lt : k < 16) (t p
                   let v : WaitsAt m u (seat s k).drafts (stage.Stamped t p) = rw at at (rw q at z.1) in
                   rw (q, get_or-set_same s.seats k y idle in_seats) (v.0, (v.1.0, right m v.1.0 (λ x. w x (sym v.0)) v.1.1))
 
-      top : (m u : ℕ) (b : Card) → with_card i.0 n t c m u ≡ Some b → (m ≡ n) ⊎ (m ≡ n → ⊥) → ((m ≡ n) × (u ≡ t)) ⊎ (m ≡ n → u ≡ t → ⊥) → u ≤ (rows' m).time
-      top m u b q a w = let z = i.1.row_top m u b in let l = above in let e = same_row m in let r = get_or-set_same s.rows n new free_row in_rows in grind arith
-
       newest : (m : ℕ) → (m ≡ n) ⊎ (m ≡ n → ⊥) → ((rows' m).time ≡ 0) ⊎ ((b : Card) × (with_card i.0 n t c m (rows' m).time ≡ Some b))
       newest m (inl a) = inr (c, with_same i.0 n t c m (rows' m).time a (rw (a, get_or-set_same s.rows n new free_row in_rows)))
       newest m (inr a) = rw (same_row m a) (newer (i.1.row_in m))
         where
           newer : ((row s m).time ≡ 0) ⊎ ((b : Card) × (i.0 m (row s m).time ≡ Some b)) → ((row s m).time ≡ 0) ⊎ ((b : Card) × (with_card i.0 n t c m (row s m).time ≡ Some b))
-          newer (inl z) = inl z
-          newer (inr z) = inr (z.0, with_other i.0 n t c m (row s m).time (λ x v. a x) ∙ z.1)
-
-      only : (m u : ℕ) (b : Card) → with_card s.kept n t c m u ≡ Some b → ((m ≡ n) × (u ≡ t)) ⊎ (m ≡ n → u ≡ t → ⊥) → with_card i.0 n t c m u ≡ Some b
-      only m u b q w = let o = i.1.only m u b in grind arith
+          newer r = grind arith
 
       gone : (m u : ℕ) (b : Card) → with_card i.0 n t c m u ≡ Some b → with_card s.kept n t c m u ≡ None → ((m ≡ n) × (u ≡ t)) ⊎ (m ≡ n → u ≡ t → ⊥) → Gone (with_card i.0 n t c m) (ready_of s.clock seats') seats' u
       gone m u b q r (inl w) = absurd (some≢none _ c (with_same s.kept n t c m u w.0 w.1) r)

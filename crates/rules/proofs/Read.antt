@@ -4,7 +4,7 @@ use mathlib.Core.Path.{fun_ext}
 use Rattle.std.proofs.lemmas.Bool.{eq-eqb, ltb-false}
 use Rattle.std.proofs.lemmas.List.{set-get_or}
 use Rattle.cards.specs.declared.card.Card.{Card}
-use Rattle.rules.specs.State.{Draft, Seat, idle, State, size, seat, row, look, has, other, latest, with_seat}
+use Rattle.rules.specs.State.{Draft, idle, State, size, seat, row, look, has, other, latest, with_seat}
 use Rattle.rules.specs.declared.stage.Stage.{Stage}
 use Rattle.rules.specs.declared.stage.Stage.TheVariants as stage
 use Rattle.cards.specs.declared.refusal.Refusal.{Refusal}
@@ -72,9 +72,7 @@ module _ (h : List Event) (s : State) (i : Inv h s) (k : ℕ) where
       Keeps h (call.Read k n) (told answer.Card (tested s k n x y z w))
   read_undrafted n t lt at un false a false b true c w = (
     i.0,
-    subst (λ (xs : List Seat). Clauses (account h) (saw (event (call.Read k n) (Ok (answer.Card (newest s n))) ∷ h)) i.0
-        (record { letters = s.letters; marks = s.marks; pairs = s.pairs; seats = xs; rows = s.rows; clock = s.clock; kept = s.kept; room = s.room; says = s.says }))
-        (set-get_or s.seats k idle) (noting n t lt at un (read_card n t at a b) (seat s k).reads (λ m q. q) c),
+    rw (sym (set-get_or s.seats k idle)) (noting n t lt at un (read_card n t at a b) (seat s k).reads (λ m q. q) c),
   )
   read_undrafted n t lt at un false a false b false c true =
       (i.0, noting n t lt at un (read_card n t at a b) ((seat s k).reads ++ n ∷ []) (has_more (seat s k).reads n) (has_new (seat s k).reads n))

@@ -1,5 +1,5 @@
 -- What lock, drop and the tests do to rows and reading lists.
-use Rattle.std.proofs.Common.{◌≡◌, ℕ, ◌-◌, ◌<◌, ◌≤◌, true, false, ◌⊎◌, List, [], ◌∷◌, ◌++◌, map, length, get_or, set, Some, None, Option, refl, ◌∙◌, inl, inr, arith}
+use Rattle.std.proofs.Common.{◌≡◌, ℕ, ◌-◌, ◌≤◌, true, false, ◌⊎◌, List, [], ◌∷◌, ◌++◌, map, length, get_or, set, Some, None, Option, refl, ◌∙◌, inl, inr, arith}
 use Rattle.std.proofs.lemmas.Bool.{cases_eq}
 use Rattle.std.proofs.lemmas.List.{get_or-set_same, get_or-set_other, length-set, set_past}
 use Rattle.cards.specs.declared.card.Card.{Card}
@@ -37,7 +37,7 @@ set_row P rs m r n old new = go (cases_eq n m) (cases_eq (length rs - n) 0)
   where
     go : (n ≡ m) ⊎ (n ≡ m → ⊥) → (length rs - n ≡ 0) ⊎ (length rs - n ≡ 0 → ⊥) → P (get_or (set rs m r) n free_row)
     go (inl e) (inl z) = rw (set_past rs m r (omega arith)) old
-    go (inl e) (inr z) = let l : m < length rs = omega arith in rw (e, get_or-set_same rs m r free_row l) (new e)
+    go (inl e) (inr z) = rw (e, get_or-set_same rs m r free_row (omega arith)) (new e)
     go (inr e) z = rw (get_or-set_other rs m n r free_row e) old
 
 -- the rows of drafted entries, each changed by f

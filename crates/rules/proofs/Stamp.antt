@@ -1,5 +1,5 @@
 -- Stamp keeps the invariant.
-use Rattle.std.proofs.Common.{◌≡◌, ℕ, suc, ◌+◌, ◌<◌, ◌≤◌, Bool, false, cond, eqb, ltb, leb, ◌⊎◌, List, ◌∷◌, length, get_or, set, Some, None, Ok, Err, Option, Result, sym, refl, ap, ◌∙◌, inl, inr, arith}
+use Rattle.std.proofs.Common.{◌≡◌, ℕ, suc, ◌+◌, ◌<◌, ◌≤◌, Bool, false, cond, eqb, ltb, leb, ◌⊎◌, List, length, get_or, set, Some, None, Ok, Err, Option, Result, sym, refl, ap, ◌∙◌, inl, inr, arith}
 use Rattle.std.proofs.lemmas.Bool.{cases_eq, eq-eqb, ne_eqb, ltb-false}
 use Rattle.std.proofs.lemmas.List.{get_or-set_same, get_or-set_other, length-set}
 use Rattle.cards.specs.declared.card.Card.{Card}
@@ -11,7 +11,7 @@ use Rattle.cards.specs.declared.refusal.Refusal.TheVariants as why
 use Rattle.rules.specs.declared.call.Call.TheVariants as call
 use Rattle.rules.specs.declared.answer.Answer.TheVariants as answer
 use Rattle.rules.specs.Rules.{stamp_at, restaged}
-use Rattle.rules.specs.Runs.{Event, event, told}
+use Rattle.rules.specs.Runs.{Event, told}
 use Rattle.rules.specs.Account.{Given, account}
 use Rattle.rules.proofs.Saw.{saw}
 use Rattle.rules.proofs.Drafts.{all_set, unput_set, look_below}
@@ -33,7 +33,7 @@ module _ (h : List Event) (s : State) (i : Inv h s) (k : ℕ) where
   stamp_past j t w = let o = i.1.seated j in grind arith
 
   stamped : k < 16 → (t : ℕ) → (seat s k).stage ≡ stage.Locked t → ltb (s.room s.kept) (unput_all s.seats + length (seat s k).drafts) ≡ false →
-      Inv (event (call.Stamp k) (Ok (answer.Number (s.clock + 1))) ∷ h) (with_clock (with_seat s k (restaged (seat s k) (stage.Stamped (s.clock + 1) 0))) (s.clock + 1))
+      Keeps h (call.Stamp k) (told answer.Number (checked s k false false false false))
   stamped lt t at fit = (
     i.0,
     rw o.0.1
@@ -44,9 +44,9 @@ module _ (h : List Event) (s : State) (i : Inv h s) (k : ℕ) where
           rowed = i.1.rowed;
           clock = next;
           seated = all_set (λ (j : ℕ) (x : Seat). SeatOk e' j (saw h j) (cond (eqb j k) (Given (suc (account h).last)) ((account h).desk j)) x) s.seats k y in_list others_ok here;
-          apart = λ j l u v w. one j l u (which u j v) (which u l w);
+          apart = λ j l u v w. let a = stamp_past l u in let b = stamp_past j u in let d = i.1.apart j l u in let x = which u j v in let z = which u l w in grind arith;
           settled = λ u w. let l = i.1.settled u w in let m = rises in omega arith;
-          wrote_in = λ u n c w. within u n c (cases_eq u (suc (account h).last)) w;
+          wrote_in = λ u n c w. let z = i.1.wrote_in u n c in let b = look_below (size s) ds o.0.3 n c in let d = o.0.2 n in let q = next in grind arith;
           put_wrote = λ n u c w. let z = i.1.put_wrote n u c w in past u n (i.1.wrote_in u n c z).1 ∙ z;
           wrote_put = λ n u c v w. waits n u c v w (cases_eq u (suc (account h).last));
           row_top = i.1.row_top;
@@ -95,13 +95,10 @@ module _ (h : List Event) (s : State) (i : Inv h s) (k : ℕ) where
           (seat_around (env (account h) s) e' j (saw h j) ((account h).desk j) (seat s j).reads (seat s j).drafts (seat s j).stage
           (record { total = refl; clock = omega arith; ready = rises; wrote = past; rows = λ n l. (l, refl); settled = λ t u. refl }) (i.1.seated j))
 
-      unsettled : (b : Bool) → (account h).settled (s.clock + 1) ≡ b → b ≡ false
-      unsettled b q = let l = i.1.settled (s.clock + 1) in let m = ready_le s.clock s.seats in grind arith
-
       here : SeatOk e' k (saw h k) (cond (eqb k k) (Given (suc (account h).last)) ((account h).desk k)) y
       here = (
         desk_here k (Given (suc (account h).last)) (account h).desk (Given (s.clock + 1)) (ap Given next),
-        unsettled ((account h).settled (s.clock + 1)) refl,
+        (let l = i.1.settled (s.clock + 1) in let m = ready_le s.clock s.seats in grind arith),
         omega arith,
         omega arith,
         (λ n. rw (eq-eqb (s.clock + 1) (suc (account h).last) (sym next)) (sym (o.0.2 n))),
@@ -112,12 +109,6 @@ module _ (h : List Event) (s : State) (i : Inv h s) (k : ℕ) where
 
       which : (u j : ℕ) → Stamps u (get_or seats' j idle).stage → ((j ≡ k) × (s.clock + 1 ≡ u)) ⊎ Stamps u (seat s j).stage
       which u = all_set (λ (j : ℕ) (x : Seat). Stamps u x.stage → ((j ≡ k) × (s.clock + 1 ≡ u)) ⊎ Stamps u (seat s j).stage) s.seats k y in_list (λ j ne w. inr w) (λ w. inl (refl, w))
-
-      one : (j l u : ℕ) → ((j ≡ k) × (s.clock + 1 ≡ u)) ⊎ Stamps u (seat s j).stage → ((l ≡ k) × (s.clock + 1 ≡ u)) ⊎ Stamps u (seat s l).stage → j ≡ l
-      one j l u v w = let a = stamp_past l u in let b = stamp_past j u in let d = i.1.apart j l u in grind arith
-
-      within : (u n : ℕ) (c : Card) → (u ≡ suc (account h).last) ⊎ (u ≡ suc (account h).last → ⊥) → wrote' u n ≡ Some c → (0 < u) × (u ≤ s.clock + 1) × (n < size s)
-      within u n c e w = let z = i.1.wrote_in u n c in let b = look_below (size s) ds o.0.3 n c in let d = o.0.2 n in let q = next in grind arith
 
       waits : (n u : ℕ) (c : Card) → wrote' u n ≡ Some c → i.0 n u ≡ None → (u ≡ suc (account h).last) ⊎ (u ≡ suc (account h).last → ⊥) → (j : ℕ) × Waits n u (get_or seats' j idle)
       waits n u c v w (inl e) =

@@ -1,6 +1,6 @@
 -- What is left when all is settled and swept; and the law.
-use Rattle.std.proofs.Common.{◌≡◌, ℕ, ◌<◌, ◌≤◌, Bool, true, false, cond, ltb, ◌⊎◌, List, [], ◌∷◌, ◌++◌, Some, None, Err, Option, Result, unwrap_or, sym, refl, ap, ◌∙◌, subst, inl, inr, arith}
-use Rattle.std.proofs.lemmas.Bool.{cases_lt, ltb-false}
+use Rattle.std.proofs.Common.{◌≡◌, ℕ, ◌<◌, ◌≤◌, Bool, true, false, cond, ltb, ◌⊎◌, List, [], ◌∷◌, ◌++◌, Some, None, Err, Option, unwrap_or, sym, refl, ap, ◌∙◌, subst, inl, inr, arith}
+use Rattle.std.proofs.lemmas.Bool.{ltb-false}
 use Rattle.cards.specs.declared.card.Card.{Card}
 use Rattle.cards.specs.declared.refusal.Refusal.{Refusal}
 use Rattle.cards.specs.declared.refusal.Refusal.TheVariants as why
@@ -49,23 +49,23 @@ module _ (h : List Event) (s : State) (i : Inv h s) (q : Quiet (account h)) wher
   floor_clock = floor_ready (ready s) s.seats (λ k. (calm_stage k).0) ∙ ready_clock
 
   held_in : (n t : ℕ) (c : Card) → s.kept n t ≡ Some c → (0 < t) × (t ≤ floor s) × (n < size s)
-  held_in n t c e = let z = i.1.wrote_in t n c (i.1.put_wrote n t c (i.1.only n t c e)) in (z.0, (let l = z.1 in let f = floor_clock in omega arith), z.2)
+  held_in n t c e = let o = i.1.only n t c in let p = i.1.put_wrote n t c in let z = i.1.wrote_in t n c in let f = floor_clock in grind arith
 
   -- a declined collect leaves one version at most
   declined_single : (n : ℕ) (r : Refusal) → (step s (call.Collect n)).1 ≡ Err r → Single (s.kept n)
   declined_single n r e = go (ltb n (size s)) refl (after (s.kept n) 0 (floor s)) refl e
     where
       next : (t : ℕ) → after (s.kept n) 0 (floor s) ≡ Some t → (y : Option ℕ) → after (s.kept n) t (floor s) ≡ y → (told answer.Number (collect_next s n t y)).1 ≡ Err r → Single (s.kept n)
-      next t a (Some f) b e = let z : ◌≡◌ {A = ℕ} 0 1 = cc in absurd (omega arith)
+      next t a (Some f) b e = grind arith
       next t a None b e = λ u v c d p q. only u c p ∙ sym (only v d q)
         where
           only : (u : ℕ) (c : Card) → s.kept n u ≡ Some c → u ≡ t
           only u c p = let a1 = after_least (s.kept n) 0 (floor s) t a u in let a2 = after_none (s.kept n) t (floor s) b u in let d = held_in n u c p in grind arith
 
       go : (b : Bool) → ltb n (size s) ≡ b → (x : Option ℕ) → after (s.kept n) 0 (floor s) ≡ x →
-          let p : State × Result ℕ Refusal = cond b (collect_oldest s n x) (s, Err why.Entry) in (told answer.Number p).1 ≡ Err r → Single (s.kept n)
+          (told answer.Number (cond b (collect_oldest s n x) (s, Err why.Entry))).1 ≡ Err r → Single (s.kept n)
       go false l x a e = λ u v c d p q. let z = (held_in n u c p).2 in let w = ltb-false n (size s) l in absurd (omega arith)
-      go true l None a e = λ u v c d p q. absurd (some≢none _ c p (after_none (s.kept n) 0 (floor s) a u (held_in n u c p).0 (held_in n u c p).1))
+      go true l None a e = λ u v c d p q. let z = held_in n u c p in let w = after_none (s.kept n) 0 (floor s) a u in grind arith
       go true l (Some t) a e = next t a (after (s.kept n) t (floor s)) refl e
 
   -- the newest of each entry is left
@@ -73,11 +73,8 @@ module _ (h : List Event) (s : State) (i : Inv h s) (q : Quiet (account h)) wher
   one_left n single = go (i.1.row_in n)
     where
       same : (t : ℕ) → i.0 n t ≡ (account h).wrote t n
-      same t = at (cases_lt s.clock t)
-        where
-          at : (s.clock < t) ⊎ (t ≤ s.clock) → i.0 n t ≡ (account h).wrote t n
-          at (inr l) = all_put (account h) (saw h) i.0 s i.1 n t (let z = ready_clock in omega arith)
-          at (inl l) = same_option (i.0 n t) ((account h).wrote t n) (i.1.put_wrote n t) (λ c q p. let z = (i.1.wrote_in t n c q).1 in omega arith)
+      same t = same_option (i.0 n t) ((account h).wrote t n) (i.1.put_wrote n t) (λ c q p.
+          let z = (i.1.wrote_in t n c q).1 in let r = ready_clock in let a = all_put (account h) (saw h) i.0 s i.1 n t (omega arith) in some≢none _ c q (sym a ∙ p))
 
       go : ((row s n).time ≡ 0) ⊎ ((c : Card) × (i.0 n (row s n).time ≡ Some c)) → OneLeft (account h) (s.kept n) n
       go (inl z) = inl ((λ t. sym (same t) ∙ none t), λ t. nothing (s.kept n t) (λ c p. some≢none _ c (i.1.only n t c p) (none t)))

@@ -1,5 +1,5 @@
 -- A version more, a version less, and the next time that has one.
-use Rattle.std.proofs.Common.{◌≡◌, ℕ, zero, suc, ◌<◌, ◌≤◌, Bool, true, false, cond, ltb, ◌⊎◌, is_some, Some, None, Option, refl, ◌∙◌, subst, arith}
+use Rattle.std.proofs.Common.{◌≡◌, ℕ, zero, suc, ◌<◌, ◌≤◌, Bool, true, cond, ltb, ◌⊎◌, is_some, Some, None, Option, refl, ◌∙◌, arith}
 use Rattle.std.proofs.lemmas.Bool.{ltb-true}
 use Rattle.cards.specs.declared.card.Card.{Card}
 use Rattle.cards.specs.Versions.{Kept, with_card, without}
@@ -23,11 +23,8 @@ after_some m t (suc u) f h = go (after m t u) refl (ltb t (suc u)) refl (m (suc 
     go : (x : Option ℕ) → after m t u ≡ x → (b : Bool) → ltb t (suc u) ≡ b → (y : Option Card) → m (suc u) ≡ y → sooner x (cond b (cond (is_some y) (Some (suc u)) None) None) ≡ Some f →
         (after m t u ≡ Some f → (t < f) × (f ≤ u) × ((c : Card) × (m f ≡ Some c))) → (t < f) × (f ≤ suc u) × ((c : Card) × (m f ≡ Some c))
     go (Some g) p b q y e k r = let z = r (p ∙ k) in (z.0, omega (arith, z.1), z.2)
-    go None p false q y e k r = absurd (some≢none _ f k refl)
-    go None p true q None e k r = absurd (some≢none _ f k refl)
-    go None p true q (Some c) e k r =
-        let z : suc u ≡ f = cc in
-        (let l = ltb-true t (suc u) q in omega arith, omega arith, (c, subst (λ (x : ℕ). m x ≡ Some c) z e))
+    go None p true q (Some c) e k r = let z : suc u ≡ f = cc in (let l = ltb-true t (suc u) q in omega arith, omega arith, (c, rw z at e))
+    go None p b q y e k r = absurd (some≢none _ f k refl)
 
 -- none found: no version above t up to u
 pub after_none : (m : ℕ → Option Card) (t u : ℕ) → after m t u ≡ None → (f : ℕ) → t < f → f ≤ u → m f ≡ None
