@@ -1,23 +1,21 @@
 -- Collect keeps the invariant.
-use Rattle.std.proofs.Common.{◌≡◌, ℕ, Bool, true, false, cond, ◌⊎◌, List, ◌∷◌, Some, None, Err, Option, Result, sym, refl, ◌∙◌, subst, inl, inr, arith}
+use Rattle.std.proofs.Common.{◌≡◌, ℕ, Bool, true, cond, ◌⊎◌, List, Some, None, Err, Option, sym, refl, ◌∙◌, inl, inr, arith}
 use Rattle.cards.specs.declared.card.Card.{Card}
-use Rattle.rules.specs.State.{floor, after, with_kept, State, ready}
-use Rattle.cards.specs.declared.refusal.Refusal.{Refusal}
+use Rattle.rules.specs.State.{floor, after, State, ready}
 use Rattle.cards.specs.declared.refusal.Refusal.TheVariants as why
 use Rattle.rules.specs.declared.call.Call.TheVariants as call
 use Rattle.rules.specs.declared.answer.Answer.TheVariants as answer
 use Rattle.cards.specs.Versions.{without}
 use Rattle.rules.specs.Rules.{collect_next, collect_oldest}
-use Rattle.rules.specs.Runs.{Event, event, answered}
-use Rattle.cards.proofs.Somes.{some≢none}
+use Rattle.rules.specs.Runs.{Event, told}
 use Rattle.rules.proofs.Ready.{floor_le, floor_off}
 use Rattle.rules.proofs.Inv.{Gone}
 use Rattle.cards.proofs.Counts.{without_other}
-use Rattle.rules.proofs.Versions.{cases_two, without_same, after_some}
-use Rattle.rules.proofs.Plainly.{Inv}
+use Rattle.rules.proofs.Versions.{cases_two, after_some}
+use Rattle.rules.proofs.Plainly.{Inv, Keeps}
 
 module _ (h : List Event) (s : State) (i : Inv h s) (n : ℕ) where
-  collected : (t f : ℕ) → after (s.kept n) t (floor s) ≡ Some f → Inv (event (call.Collect n) (answer.Number t) ∷ h) (with_kept s (without s.kept n t))
+  collected : (t f : ℕ) → after (s.kept n) t (floor s) ≡ Some f → Keeps h (call.Collect n) (told answer.Number (collect_next s n t (Some f)))
   collected t f e = (
     i.0,
     record {
@@ -34,28 +32,22 @@ module _ (h : List Event) (s : State) (i : Inv h s) (n : ℕ) where
       wrote_put = i.1.wrote_put;
       row_top = i.1.row_top;
       row_in = i.1.row_in;
-      only = λ m u c q. still m u c q (cases_two n t m u);
+      only = λ m u c q. let o = i.1.only m u c in grind arith;
       keeps = λ m u c p q. gone m u c p q (cases_two n t m u);
       room = let l = i.1.room in let r = i.1.lawful.removes s.kept n t in omega arith;
     },
   )
     where
-      still : (m u : ℕ) (c : Card) → without s.kept n t m u ≡ Some c → ((m ≡ n) × (u ≡ t)) ⊎ (m ≡ n → u ≡ t → ⊥) → i.0 m u ≡ Some c
-      still m u c q (inl w) = absurd (some≢none _ c q (without_same s.kept n t m u w.0 w.1))
-      still m u c q (inr w) = i.1.only m u c (sym (without_other s.kept n t m u w) ∙ q)
-
       gone : (m u : ℕ) (c : Card) → i.0 m u ≡ Some c → without s.kept n t m u ≡ None → ((m ≡ n) × (u ≡ t)) ⊎ (m ≡ n → u ≡ t → ⊥) → Gone (i.0 m) (ready s) s.seats u
       gone m u c p q (inr w) = i.1.keeps m u c p (sym (without_other s.kept n t m u w) ∙ q)
       gone m u c p q (inl w) =
           let z = after_some (s.kept n) t (floor s) f e in
-          subst (λ (x : ℕ). Gone (i.0 x) (ready s) s.seats u) (sym w.0) (subst (Gone (i.0 n) (ready s) s.seats) (sym w.1)
-          (f, (z.2.0, i.1.only n f z.2.0 z.2.1), z.0, (let l = z.1 in let r = floor_le (ready s) s.seats in omega arith), floor_off (ready s) s.seats t f z.1))
+          rw (w.0, w.1) (f, (z.2.0, i.1.only n f z.2.0 z.2.1), z.0, (let l = z.1 in let r = floor_le (ready s) s.seats in omega arith), floor_off (ready s) s.seats t f z.1)
 
-  pub collect_keeps : (b : Bool) → (x : Option ℕ) → let p : State × Result ℕ Refusal = cond b (collect_oldest s n x) (s, Err why.Entry) in Inv (event (call.Collect n) (answered answer.Number p.1) ∷ h) p.0
-  collect_keeps false x = i
-  collect_keeps true None = i
+  pub collect_keeps : (b : Bool) (x : Option ℕ) → Keeps h (call.Collect n) (told answer.Number (cond b (collect_oldest s n x) (s, Err why.Entry)))
   collect_keeps true (Some t) = go (after (s.kept n) t (floor s)) refl
     where
-      go : (y : Option ℕ) → after (s.kept n) t (floor s) ≡ y → let p : State × Result ℕ Refusal = collect_next s n t y in Inv (event (call.Collect n) (answered answer.Number p.1) ∷ h) p.0
+      go : (y : Option ℕ) → after (s.kept n) t (floor s) ≡ y → Keeps h (call.Collect n) (told answer.Number (collect_next s n t y))
       go None e = i
       go (Some f) e = collected t f e
+  collect_keeps b x = i

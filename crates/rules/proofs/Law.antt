@@ -1,5 +1,5 @@
 -- The law, from its form event by event.
-use Rattle.std.proofs.Common.{◌≡◌, ℕ, ◌<◌, ◌≤◌, Bool, true, false, cond, eqb, List, [], ◌∷◌, ◌++◌, Some, None, Option, refl, ap, ◌∙◌, subst, arith}
+use Rattle.std.proofs.Common.{◌≡◌, ℕ, ◌<◌, ◌≤◌, Bool, false, cond, List, [], ◌∷◌, ◌++◌, Some, None, Ok, Err, Option, refl, ap, subst, arith}
 use Rattle.cards.specs.declared.card.Card.{Card}
 use Rattle.rules.specs.State.{Draft}
 use Rattle.cards.specs.declared.refusal.Refusal.{Refusal}
@@ -7,13 +7,13 @@ use Rattle.rules.specs.declared.call.Call.{Call}
 use Rattle.rules.specs.declared.call.Call.TheVariants as call
 use Rattle.rules.specs.declared.answer.Answer.TheVariants as answer
 use Rattle.rules.specs.State.{State, size}
-use Rattle.rules.specs.Account.{Desk, Free, Reading, Drafting, Given, Account, account, card_after}
-use Rattle.rules.proofs.Saw.{saw, card_of, saw_by, saw_desk, saw_undrafted}
+use Rattle.rules.specs.Account.{Desk, Drafting, Account, account, card_after}
+use Rattle.rules.proofs.Saw.{saw, card_of, saw_by, saw_undrafted}
 use Rattle.std.proofs.lemmas.Bool.{eq-eqb}
 use Rattle.rules.specs.Runs.{Event, event, step, Reached, new, more}
 use Rattle.rules.specs.Account.{granted, number, fed}
 use Rattle.rules.specs.Law.{All, SameEdit, Open, EditsThere, form_of, HasForm, LawHolds}
-use Rattle.rules.proofs.Fair.{Fair, Honest, Stood, RightCard, Declinable}
+use Rattle.rules.proofs.Fair.{Fair, Honest, From, Stood, RightCard}
 use Rattle.rules.proofs.Honest.{reached_honest}
 use Rattle.rules.proofs.Swept.{swept}
 
@@ -24,42 +24,14 @@ fair_at N w (x ∷ later) v earlier h = fair_at N w later v earlier h.1
 
 -- ---- an edit stays on its seat until another is opened there
 abbrev start_of : Desk → Option ℕ
-start_of Free = None
-start_of (Reading t) = None
 start_of (Drafting t f) = Some t
-start_of (Given t) = None
+start_of d = None
 
 start_before : (a : Account) (c : Call) (b : Bool) (x k u : ℕ) → (c ≡ call.Edit k → b ≡ false) → start_of ((cond b (fed a c x) a).desk k) ≡ Some u → start_of (a.desk k) ≡ Some u
 start_before a c b x k u ne e = grind arith
 
 saw_before : (P : Draft → Type 0) (old : ℕ → List Draft) (desk : ℕ → Desk) (c : Call) (b : Bool) (x : Card) (k : ℕ) → (c ≡ call.Edit k → b ≡ false) → All P (cond b (saw_by old desk c x k) (old k)) → All P (old k)
-saw_before P old desk c false x k ne h = h
-saw_before P old desk (call.Proof j) true x k ne h = h
-saw_before P old desk (call.Edit j) true x k ne h = edit (eqb k j) refl h
-  where
-    edit : (y : Bool) → eqb k j ≡ y → All P (cond y [] (old k)) → All P (old k)
-    edit true e h = let z : j ≡ k = grind arith in let f : true ≡ false = ne (ap call.Edit z) in let o : ◌≡◌ {A = ℕ} 0 1 = cc in absurd (omega arith)
-    edit false e h = h
-saw_before P old desk (call.Read j n) true x k ne h = read (eqb k j) (desk k) h
-  where
-    new : (o : Option Card) → All P (saw_undrafted n x (old k) o) → All P (old k)
-    new None h = h.1
-    new (Some c) h = h
-
-    read : (y : Bool) (d : Desk) → All P (cond y (saw_desk n x (old k) d) (old k)) → All P (old k)
-    read false d h = h
-    read true Free h = h
-    read true (Reading t) h = h
-    read true (Drafting t f) h = new (f n) h
-    read true (Given t) h = h
-saw_before P old desk (call.Write j n c) true x k ne h = h
-saw_before P old desk (call.Lock j) true x k ne h = h
-saw_before P old desk (call.Stamp j) true x k ne h = h
-saw_before P old desk (call.Put j) true x k ne h = h
-saw_before P old desk (call.Settle j) true x k ne h = h
-saw_before P old desk (call.Drop j) true x k ne h = h
-saw_before P old desk (call.End j) true x k ne h = h
-saw_before P old desk (call.Collect n) true x k ne h = h
+saw_before P old desk c b x k ne h = grind arith
 
 start_since : (k u : ℕ) (middle earlier : List Event) → SameEdit k middle → start_of ((account (middle ++ earlier)).desk k) ≡ Some u → start_of ((account earlier).desk k) ≡ Some u
 start_since k u [] earlier s e = e
@@ -73,36 +45,22 @@ saw_since P k (v ∷ middle) earlier s h =
 
 -- what is read where there is no draft is seen
 saw_here : (P : Draft → Type 0) (k n u : ℕ) (f : ℕ → Option Card) (c : Card) (earlier : List Event) → (account earlier).desk k ≡ Drafting u f → f n ≡ None →
-    All P (saw (event (call.Read k n) (answer.Card c) ∷ earlier) k) → P (record { entry = n; card = c })
+    All P (saw (event (call.Read k n) (Ok (answer.Card c)) ∷ earlier) k) → P (record { entry = n; card = c })
 saw_here P k n u f c earlier d e h =
-    let z : saw (event (call.Read k n) (answer.Card c) ∷ earlier) k ≡ record { entry = n; card = c } ∷ saw earlier k =
+    let z : saw (event (call.Read k n) (Ok (answer.Card c)) ∷ earlier) k ≡ record { entry = n; card = c } ∷ saw earlier k =
     rw (eq-eqb k k refl, d) (ap (saw_undrafted n c (saw earlier k)) e) in
-    (subst (All P) z h).0
+    (rw z at h).0
 
-stood_at : (w : ℕ → ℕ → Option Card) (t u : ℕ) (seen : List Draft) (d : Desk) → start_of d ≡ Some u → Stood w t seen d → All (λ (x : Draft). (T : ℕ) → u ≤ T → T < t → card_after w T x.entry ≡ x.card) seen
-stood_at w t u seen Free e s = absurd s
-stood_at w t u seen (Reading v) e s = absurd s
-stood_at w t u seen (Drafting v f) e s = let z : v ≡ u = cc in subst (λ (y : ℕ). All (λ (x : Draft). (T : ℕ) → y ≤ T → T < t → card_after w T x.entry ≡ x.card) seen) z s
-stood_at w t u seen (Given v) e s = absurd s
-
-started : (w : ℕ → ℕ → Option Card) (t : ℕ) (seen : List Draft) (d : Desk) → Stood w t seen d → (u : ℕ) × (start_of d ≡ Some u)
-started w t seen Free s = absurd s
-started w t seen (Reading v) s = absurd s
-started w t seen (Drafting v f) s = (v, refl)
-started w t seen (Given v) s = absurd s
+started : (w : ℕ → ℕ → Option Card) (t : ℕ) (seen : List Draft) (d : Desk) → Stood w t seen d → (u : ℕ) × (start_of d ≡ Some u) × All (From w t u) seen
+started w t seen (Drafting v f) s = (v, refl, s)
+started w t seen d s = absurd s
 
 -- ---- the forms
 open_read : (w : ℕ → ℕ → Option Card) (n : ℕ) (c : Card) (d : Desk) → RightCard w n c d → Open d
-open_read w n c Free x = x
-open_read w n c (Reading t) x = tt
-open_read w n c (Drafting t f) x = tt
-open_read w n c (Given t) x = x
+open_read w n c d x = grind arith
 
 stood_edits : (w : ℕ → ℕ → Option Card) (t : ℕ) (seen : List Draft) (d : Desk) → Stood w t seen d → EditsThere d
-stood_edits w t seen Free x = x
-stood_edits w t seen (Reading u) x = x
-stood_edits w t seen (Drafting u f) x = tt
-stood_edits w t seen (Given u) x = x
+stood_edits w t seen d x = grind arith
 
 step_form : (s : State) (c : Call) → HasForm (form_of c) (step s c).1
 step_form s c = grind arith
@@ -116,7 +74,7 @@ each_at P [] v earlier a = a.0
 each_at P (x ∷ later) v earlier a = each_at P later v earlier a.1
 
 -- a declined call leaves everything as it was
-declined_same : (s : State) (c : Call) (r : Refusal) → (step s c).1 ≡ answer.Declined r → (step s c).0 ≡ s
+declined_same : (s : State) (c : Call) (r : Refusal) → (step s c).1 ≡ Err r → (step s c).0 ≡ s
 declined_same s c r e = grind arith
 
 -- the clock ends at 1,000,000, so that the refusal is given exactly there
@@ -129,18 +87,18 @@ reached_clock (more {h} {s} c r) = step_clock s c (reached_clock r)
 
 pub law_holds_lem : LawHolds
 law_holds_lem h s r = record {
-  edit_answers_last_time = λ later earlier k t e. at later (event (call.Edit k) (answer.Number t)) earlier e;
-  stamp_answers_next_time = λ later earlier k t e. (at later (event (call.Stamp k) (answer.Number t)) earlier e).0;
-  edit_reads_draft_or_start = λ later earlier k n u f c e d. subst (RightCard (account h).wrote n c) d (at later (event (call.Read k n) (answer.Card c)) earlier e);
+  edit_answers_last_time = λ later earlier k t e. at later (event (call.Edit k) (Ok (answer.Number t))) earlier e;
+  stamp_answers_next_time = λ later earlier k t e. (at later (event (call.Stamp k) (Ok (answer.Number t))) earlier e).0;
+  edit_reads_draft_or_start = λ later earlier k n u f c e d. rw d at (at later (event (call.Read k n) (Ok (answer.Card c))) earlier e);
   read_stands_until_stamp = stands;
-  proof_starts_settled = λ later earlier k t e. at later (event (call.Proof k) (answer.Number t)) earlier e;
-  proof_reads_start = λ later earlier k n u c e d. subst (RightCard (account h).wrote n c) d (at later (event (call.Read k n) (answer.Card c)) earlier e);
-  proof_read_granted = λ later earlier k n u q e d. subst (Declinable (size s) n) d (at later (event (call.Read k n) (answer.Declined q)) earlier e);
+  proof_starts_settled = λ later earlier k t e. at later (event (call.Proof k) (Ok (answer.Number t))) earlier e;
+  proof_reads_start = λ later earlier k n u c e d. rw d at (at later (event (call.Read k n) (Ok (answer.Card c))) earlier e);
+  proof_read_granted = λ later earlier k n u q e d. at later (event (call.Read k n) (Err q)) earlier e u d;
   collects_leave_one = swept h s r;
-  put_is_taken = λ later earlier k q e. at later (event (call.Put k) (answer.Declined q)) earlier e;
-  read_needs_open = λ later earlier k n c e. open_read (account h).wrote n c ((account earlier).desk k) (at later (event (call.Read k n) (answer.Card c)) earlier e);
-  stamp_needs_edit = λ later earlier k t e. stood_edits (account h).wrote t (saw earlier k) ((account earlier).desk k) (at later (event (call.Stamp k) (answer.Number t)) earlier e).1;
-  answer_has_form = λ later earlier c a e. each_at (λ (v : Event). HasForm (form_of v.call) v.answer) later (event c a) earlier (subst (All (λ (v : Event). HasForm (form_of v.call) v.answer)) e (reached_forms r));
+  put_is_taken = λ later earlier k q e. at later (event (call.Put k) (Err q)) earlier e;
+  read_needs_open = λ later earlier k n c e. open_read (account h).wrote n c ((account earlier).desk k) (at later (event (call.Read k n) (Ok (answer.Card c))) earlier e);
+  stamp_needs_edit = λ later earlier k t e. stood_edits (account h).wrote t (saw earlier k) ((account earlier).desk k) (at later (event (call.Stamp k) (Ok (answer.Number t))) earlier e).1;
+  answer_has_form = λ later earlier c a e. each_at (λ (v : Event). HasForm (form_of v.call) v.answer) later (event c a) earlier (rw e at (reached_forms r));
   declined_changes_nothing = declined_same s;
   clock_ends = reached_clock r;
 }
@@ -149,18 +107,13 @@ law_holds_lem h s r = record {
     at later v earlier e = fair_at (size s) (account h).wrote later v earlier (subst (Honest (size s) (account h).wrote) e (reached_honest r (account h).wrote (λ t n l. refl)))
 
     stands : (later middle earlier : List Event) (k n t u : ℕ) (f : ℕ → Option Card) (c : Card) →
-        h ≡ later ++ (event (call.Stamp k) (answer.Number t) ∷ (middle ++ (event (call.Read k n) (answer.Card c) ∷ earlier))) → (account earlier).desk k ≡ Drafting u f → f n ≡ None → SameEdit k middle →
+        h ≡ later ++ (event (call.Stamp k) (Ok (answer.Number t)) ∷ (middle ++ (event (call.Read k n) (Ok (answer.Card c)) ∷ earlier))) → (account earlier).desk k ≡ Drafting u f → f n ≡ None → SameEdit k middle →
         (T : ℕ) → u ≤ T → T < t → card_after (account h).wrote T n ≡ c
     stands later middle earlier k n t u f c e d un same =
         let w = (account h).wrote in
-        let read = event (call.Read k n) (answer.Card c) ∷ earlier in
-        let stood = (at later (event (call.Stamp k) (answer.Number t)) (middle ++ read) e).1 in
+        let read = event (call.Read k n) (Ok (answer.Card c)) ∷ earlier in
+        let stood = (at later (event (call.Stamp k) (Ok (answer.Number t))) (middle ++ read) e).1 in
         let v = started w t (saw (middle ++ read) k) ((account (middle ++ read)).desk k) stood in
         let z : start_of ((account earlier).desk k) ≡ Some v.0 = start_since k v.0 middle read same v.1 in
-        let y : v.0 ≡ u = same_start v.0 u f ((account earlier).desk k) z d in
-        saw_here (λ (x : Draft). (T : ℕ) → u ≤ T → T < t → card_after w T x.entry ≡ x.card) k n u f c earlier d un
-        (saw_since (λ (x : Draft). (T : ℕ) → u ≤ T → T < t → card_after w T x.entry ≡ x.card) k middle read same
-        (stood_at w t u (saw (middle ++ read) k) ((account (middle ++ read)).desk k) (v.1 ∙ ap (λ (q : ℕ). Some q) y) stood))
-      where
-        same_start : (v u : ℕ) (f : ℕ → Option Card) (d : Desk) → start_of d ≡ Some v → d ≡ Drafting u f → v ≡ u
-        same_start v u f d p q = let z : start_of d ≡ Some u = ap start_of q in cc
+        let y : v.0 ≡ u = let x : start_of ((account earlier).desk k) ≡ Some u = ap start_of d in cc in
+        saw_here (From w t u) k n u f c earlier d un (saw_since (From w t u) k middle read same (rw y at v.2))

@@ -1,3 +1,4 @@
+pub mod Options
 pub mod Drafts
 pub mod Latest
 pub mod Ready

@@ -1,28 +1,26 @@
 -- Put keeps the invariant.
-use Rattle.std.proofs.Common.{◌≡◌, ℕ, suc, ◌+◌, ◌<◌, ◌≤◌, Bool, true, false, cond, ltb, ◌⊎◌, List, [], ◌∷◌, length, get_or, drop, set, Some, None, Err, Option, Result, sym, refl, ap, ◌∙◌, subst, inl, inr, arith}
-use Rattle.std.proofs.lemmas.Bool.{cases_eq, eqb-false, eq-eqb, ltb-true}
+use Rattle.std.proofs.Common.{◌≡◌, ℕ, suc, ◌+◌, ◌<◌, ◌≤◌, ◌⊎◌, List, [], ◌∷◌, length, get_or, drop, set, Some, None, sym, refl, ap, ◌∙◌, inl, inr, arith}
+use Rattle.std.proofs.lemmas.Bool.{cases_eq, eq-eqb}
 use Rattle.std.proofs.lemmas.List.{get_or-set_same, get_or-set_other, length-set, drop-drop}
 use Rattle.cards.specs.declared.card.Card.{Card}
-use Rattle.rules.specs.State.{Draft, with_kept, unput_of, ready_of, Seat, idle, Row, free_row, State, size, seat, row, look, ready, unput_all, with_seat, with_rows}
+use Rattle.rules.specs.State.{Draft, ready_of, Seat, idle, Row, free_row, State, size, seat, row, look, ready, unput_all}
 use Rattle.rules.specs.declared.stage.Stage.{Stage}
 use Rattle.rules.specs.declared.stage.Stage.TheVariants as stage
-use Rattle.cards.specs.declared.refusal.Refusal.{Refusal}
-use Rattle.cards.specs.declared.refusal.Refusal.TheVariants as why
 use Rattle.rules.specs.declared.call.Call.TheVariants as call
 use Rattle.rules.specs.declared.answer.Answer.TheVariants as answer
 use Rattle.cards.specs.Versions.{with_card}
 use Rattle.rules.specs.Rules.{put_draft, put_next, put_at, restaged}
-use Rattle.rules.specs.Runs.{Event, event, answered}
+use Rattle.rules.specs.Runs.{Event, told}
 use Rattle.rules.specs.Account.{account}
 use Rattle.rules.proofs.Saw.{saw}
 use Rattle.cards.proofs.Somes.{some≢none}
 use Rattle.rules.proofs.Drafts.{all_set, count, unput_set, look_tail, look_drop, once_drop, Once}
-use Rattle.rules.proofs.Ready.{Off, Late, LateAt, ready_le, ready_late, ready_most}
-use Rattle.rules.proofs.Inv.{Gone, Env, Stamps, SeatAt, SeatOk, WaitsAt, Waits, env}
+use Rattle.rules.proofs.Ready.{ready_le, ready_late, ready_set}
+use Rattle.rules.proofs.Inv.{Gone, Env, Stamps, SeatAt, SeatOk, WaitsAt, Waits, gone_set, env}
 use Rattle.rules.proofs.Reseat.{seat_around}
 use Rattle.cards.proofs.Counts.{with_other}
 use Rattle.rules.proofs.Versions.{cases_two, with_same}
-use Rattle.rules.proofs.Plainly.{Inv, desk_other, at_stage}
+use Rattle.rules.proofs.Plainly.{Inv, Keeps, at_stage}
 
 count_at_most : (xs : List Seat) (k : ℕ) → k < length xs → count (get_or xs k idle) ≤ unput_all xs
 count_at_most xs k l = let z = unput_set xs k idle l in omega arith
@@ -35,7 +33,7 @@ module _ (h : List Event) (s : State) (i : Inv h s) (k : ℕ) (lt : k < 16) (t p
   put_facts = at_stage h s i k (stage.Stamped t p) at
 
   once_left : Once (size s) (d ∷ rest)
-  once_left = subst (Once (size s)) e (once_drop (size s) p (seat s k).drafts put_facts.5)
+  once_left = rw e at (once_drop (size s) p (seat s k).drafts put_facts.5)
 
   first : look (drop p (seat s k).drafts) d.entry ≡ Some d.card
   first = rw (e, eq-eqb d.entry d.entry refl)
@@ -49,6 +47,9 @@ module _ (h : List Event) (s : State) (i : Inv h s) (k : ℕ) (lt : k < 16) (t p
   in_seats : k < length s.seats
   in_seats = rw i.1.sixteen lt
 
+  was : count (seat s k) ≡ suc (length rest)
+  was = rw at (ap length e)
+
   in_rows : d.entry < length s.rows
   in_rows = rw i.1.rowed once_left.0
 
@@ -58,21 +59,16 @@ module _ (h : List Event) (s : State) (i : Inv h s) (k : ℕ) (lt : k < 16) (t p
       (λ u c q. let z = i.1.row_top d.entry u c (i.1.only d.entry u c q) in let w = above in omega arith)
     where
       spare : 0 < s.room s.kept
-      spare = let m : count (seat s k) ≡ suc (length rest) = subst (λ (g : Stage). length (unput_of (seat s k).drafts g) ≡ suc (length rest)) (sym at) (ap length e) in
-          let l = count_at_most s.seats k in_seats in let r = i.1.room in omega arith
+      spare = let m = was in let l = count_at_most s.seats k in_seats in let r = i.1.room in omega arith
 
   -- what is left of the list does not have its entry
   left : (m : ℕ) (c : Card) → look (drop (p + 1) (seat s k).drafts) m ≡ Some c → (m ≡ d.entry → ⊥) × (look (drop p (seat s k).drafts) m ≡ Some c)
-  left m c q =
-      let z = look_tail d rest m c once_left.1 (rw (drop_next p (seat s k).drafts d rest e) at q) in
-      (eqb-false m d.entry z.0, rw e z.1)
+  left m c q = let z = look_tail d rest m c once_left.1 in let n = drop_next p (seat s k).drafts d rest e in grind arith
 
   right : (m : ℕ) (c : Card) → (m ≡ d.entry → ⊥) → look (drop p (seat s k).drafts) m ≡ Some c → look (drop (p + 1) (seat s k).drafts) m ≡ Some c
-  right m c ne q = rw (drop_next p (seat s k).drafts d rest e) (sym (desk_other d.entry m (Some d.card) (look rest m) ne) ∙ (rw e at q))
+  right m c ne q = let n = drop_next p (seat s k).drafts d rest e in grind arith
 
-  put_done : Inv (event (call.Put k) (answer.Number (length (drop (p + 1) (seat s k).drafts))) ∷ h)
-      (with_kept (with_rows (with_seat s k (restaged (seat s k) (stage.Stamped t (p + 1)))) (set s.rows d.entry (record { time = t; lock = None })))
-      (with_card s.kept d.entry t d.card))
+  put_done : Keeps h (call.Put k) (told answer.Number (put_draft s k t p d None))
   put_done = (
     with_card i.0 n t c,
     record {
@@ -85,11 +81,11 @@ module _ (h : List Event) (s : State) (i : Inv h s) (k : ℕ) (lt : k < 16) (t p
       apart = λ j l u v w. i.1.apart j l u (old u j v) (old u l w);
       settled = λ u w. let l = i.1.settled u w in let m = rises in omega arith;
       wrote_in = i.1.wrote_in;
-      put_wrote = λ m u b q. wrote m u b q (cases_two n t m u);
+      put_wrote = λ m u b q. let o = i.1.put_wrote m u b in let d = put_facts.4 n in let z = look_drop (size s) p (seat s k).drafts put_facts.5 n c first in grind arith;
       wrote_put = λ m u b q r. waits m u b q r (cases_two n t m u);
-      row_top = λ m u b q. top m u b q (cases_eq m n) (cases_two n t m u);
+      row_top = λ m u b q. let z = i.1.row_top m u b in let l = above in let e = same_row m in let r = get_or-set_same s.rows n new free_row in_rows in grind arith;
       row_in = λ m. newest m (cases_eq m n);
-      only = λ m u b q. only m u b q (cases_two n t m u);
+      only = λ m u b q. let o = i.1.only m u b in grind arith;
       keeps = λ m u b q r. gone m u b q r (cases_two n t m u);
       room = let z = unput_set s.seats k y in_seats in let m = was in let w = ap length (drop_next p (seat s k).drafts d rest e) in let l = i.1.room in let v = i.1.lawful.adds s.kept n t c in omega arith;
     },
@@ -113,14 +109,8 @@ module _ (h : List Event) (s : State) (i : Inv h s) (k : ℕ) (lt : k < 16) (t p
       rows' : ℕ → Row
       rows' m = get_or (set s.rows n new) m free_row
 
-      was : count (seat s k) ≡ suc (length rest)
-      was = subst (λ (g : Stage). length (unput_of (seat s k).drafts g) ≡ suc (length rest)) (sym at) (ap length e)
-
       rises : ready s ≤ ready_of s.clock seats'
-      rises =
-          ready_most (ready s) s.clock seats' (ready_le s.clock s.seats)
-          (all_set (λ (j : ℕ) (x : Seat). Late (ready s) x) s.seats k y in_seats (λ j ne. ready_late s.clock s.seats j)
-          (λ q. subst (λ (g : Stage). LateAt (ready s) (seat s k).drafts g) at (ready_late s.clock s.seats k) (omega arith)))
+      rises = ready_set s.clock s.clock s.seats k y in_seats (ready_le s.clock s.seats) (λ q. (rw at at (ready_late s.clock s.seats k)) (omega arith))
 
       e' : Env
       e' = record { total = size s; clock = s.clock; ready = ready_of s.clock seats'; rows = rows'; wrote = (account h).wrote; settled = (account h).settled }
@@ -136,13 +126,10 @@ module _ (h : List Event) (s : State) (i : Inv h s) (k : ℕ) (lt : k < 16) (t p
             clock = omega arith;
             ready = rises;
             wrote = λ u m l. refl;
-            rows = λ m l. let z = same_row m (λ q. ne (some_inj (sym (subst (λ (x : ℕ). (row s x).lock ≡ Some j) q l) ∙ mine))) in (ap (λ (r : Row). r.lock) z ∙ l, ap (λ (r : Row). r.time) z);
+            rows = λ m l. let z = same_row m in let o = mine in grind arith;
             settled = λ u w. refl;
           })
           (i.1.seated j)
-        where
-          some_inj : Some j ≡ Some k → j ≡ k
-          some_inj q = cc
 
       here : SeatOk e' k (saw h k) ((account h).desk k) y
       here = (
@@ -152,82 +139,48 @@ module _ (h : List Event) (s : State) (i : Inv h s) (k : ℕ) (lt : k < 16) (t p
         put_facts.3,
         put_facts.4,
         put_facts.5,
-        (λ m b q. let z = left m b q in ap (λ (r : Row). r.lock) (same_row m z.0) ∙ put_facts.6 m b z.1),
+        (λ m b q. let z = left m b q in rw (same_row m z.0) (put_facts.6 m b z.1)),
         λ m b q. let z = left m b q in rw (same_row m z.0) (put_facts.7 m b z.1),
       )
 
       old : (u j : ℕ) → Stamps u (get_or seats' j idle).stage → Stamps u (seat s j).stage
-      old u = all_set (λ (j : ℕ) (x : Seat). Stamps u x.stage → Stamps u (seat s j).stage) s.seats k y in_seats (λ j ne w. w) (λ w. subst (Stamps u) (sym at) w)
-
-      wrote : (m u : ℕ) (b : Card) → with_card i.0 n t c m u ≡ Some b → ((m ≡ n) × (u ≡ t)) ⊎ (m ≡ n → u ≡ t → ⊥) → (account h).wrote u m ≡ Some b
-      wrote m u b q (inr w) = i.1.put_wrote m u b (sym (with_other i.0 n t c m u w) ∙ q)
-      wrote m u b q (inl w) =
-          let z : (account h).wrote t n ≡ Some c = put_facts.4 n ∙ look_drop (size s) p (seat s k).drafts put_facts.5 n c first in
-          rw (w.0, w.1) (z ∙ sym (with_same i.0 n t c m u w.0 w.1) ∙ q)
+      old u = all_set (λ (j : ℕ) (x : Seat). Stamps u x.stage → Stamps u (seat s j).stage) s.seats k y in_seats (λ j ne w. w) (λ w. rw at w)
 
       waits : (m u : ℕ) (b : Card) → (account h).wrote u m ≡ Some b → with_card i.0 n t c m u ≡ None → ((m ≡ n) × (u ≡ t)) ⊎ (m ≡ n → u ≡ t → ⊥) → (j : ℕ) × Waits m u (get_or seats' j idle)
-      waits m u b q r (inl w) = absurd (some≢none _ c (with_same i.0 n t c m u w.0 w.1) r)
+      waits m u b q r (inl w) = grind arith
       waits m u b q r (inr w) = go (i.1.wrote_put m u b q (sym (with_other i.0 n t c m u w) ∙ r))
         where
           go : (j : ℕ) × Waits m u (seat s j) → (j : ℕ) × Waits m u (get_or seats' j idle)
           go z = (z.0, at_seat (cases_eq z.0 k))
             where
               at_seat : (z.0 ≡ k) ⊎ (z.0 ≡ k → ⊥) → Waits m u (get_or seats' z.0 idle)
-              at_seat (inr ne) = subst (λ (x : Seat). Waits m u x) (sym (get_or-set_other s.seats k z.0 y idle ne)) z.1
+              at_seat (inr ne) = rw (get_or-set_other s.seats k z.0 y idle ne) z.1
               at_seat (inl q) =
-                  let v : WaitsAt m u (seat s k).drafts (stage.Stamped t p) = subst (λ (g : Stage). WaitsAt m u (seat s k).drafts g) at (subst (λ (j : ℕ). Waits m u (seat s j)) q z.1) in
-                  subst (λ (j : ℕ). Waits m u (get_or seats' j idle)) (sym q)
-                  (subst (λ (x : Seat). Waits m u x) (sym (get_or-set_same s.seats k y idle in_seats))
-                  (v.0, (v.1.0, right m v.1.0 (λ x. w x (sym v.0)) v.1.1)))
-
-      top : (m u : ℕ) (b : Card) → with_card i.0 n t c m u ≡ Some b → (m ≡ n) ⊎ (m ≡ n → ⊥) → ((m ≡ n) × (u ≡ t)) ⊎ (m ≡ n → u ≡ t → ⊥) → u ≤ (rows' m).time
-      top m u b q (inl a) (inl w) = rw (a, get_or-set_same s.rows n new free_row in_rows) (let z = w.1 in omega arith)
-      top m u b q (inl a) (inr w) =
-          let z = i.1.row_top m u b (sym (with_other i.0 n t c m u w) ∙ q) in
-          let l : (row s m).time < t = subst (λ (x : ℕ). (row s x).time < t) (sym a) above in
-          rw (a, get_or-set_same s.rows n new free_row in_rows) (omega arith)
-      top m u b q (inr a) w = rw (same_row m a) (i.1.row_top m u b (sym (with_other i.0 n t c m u (λ x v. a x)) ∙ q))
+                  let v : WaitsAt m u (seat s k).drafts (stage.Stamped t p) = rw at at (rw q at z.1) in
+                  rw (q, get_or-set_same s.seats k y idle in_seats) (v.0, (v.1.0, right m v.1.0 (λ x. w x (sym v.0)) v.1.1))
 
       newest : (m : ℕ) → (m ≡ n) ⊎ (m ≡ n → ⊥) → ((rows' m).time ≡ 0) ⊎ ((b : Card) × (with_card i.0 n t c m (rows' m).time ≡ Some b))
       newest m (inl a) = inr (c, with_same i.0 n t c m (rows' m).time a (rw (a, get_or-set_same s.rows n new free_row in_rows)))
-      newest m (inr a) = go (i.1.row_in m)
+      newest m (inr a) = rw (same_row m a) (newer (i.1.row_in m))
         where
-          go : ((row s m).time ≡ 0) ⊎ ((b : Card) × (i.0 m (row s m).time ≡ Some b)) → ((rows' m).time ≡ 0) ⊎ ((b : Card) × (with_card i.0 n t c m (rows' m).time ≡ Some b))
-          go (inl z) = inl (rw (same_row m a) z)
-          go (inr z) = inr (z.0, with_other i.0 n t c m (rows' m).time (λ x v. a x) ∙ rw (same_row m a) z.1)
-
-      only : (m u : ℕ) (b : Card) → with_card s.kept n t c m u ≡ Some b → ((m ≡ n) × (u ≡ t)) ⊎ (m ≡ n → u ≡ t → ⊥) → with_card i.0 n t c m u ≡ Some b
-      only m u b q (inl w) = with_same i.0 n t c m u w.0 w.1 ∙ sym (with_same s.kept n t c m u w.0 w.1) ∙ q
-      only m u b q (inr w) = with_other i.0 n t c m u w ∙ i.1.only m u b (sym (with_other s.kept n t c m u w) ∙ q)
+          newer : ((row s m).time ≡ 0) ⊎ ((b : Card) × (i.0 m (row s m).time ≡ Some b)) → ((row s m).time ≡ 0) ⊎ ((b : Card) × (with_card i.0 n t c m (row s m).time ≡ Some b))
+          newer r = grind arith
 
       gone : (m u : ℕ) (b : Card) → with_card i.0 n t c m u ≡ Some b → with_card s.kept n t c m u ≡ None → ((m ≡ n) × (u ≡ t)) ⊎ (m ≡ n → u ≡ t → ⊥) → Gone (with_card i.0 n t c m) (ready_of s.clock seats') seats' u
       gone m u b q r (inl w) = absurd (some≢none _ c (with_same s.kept n t c m u w.0 w.1) r)
       gone m u b q r (inr w) =
-          let g = i.1.keeps m u b (sym (with_other i.0 n t c m u w) ∙ q) (sym (with_other s.kept n t c m u w) ∙ r) in (
-            g.0,
-            has g.0 g.1.0 g.1.1 (cases_two n t m g.0),
-            g.2,
-            (let l = g.3 in let z = rises in omega arith),
-            all_set (λ (j : ℕ) (x : Seat). Off u g.0 x.stage) s.seats k y in_seats (λ j ne. g.4 j) tt,
-          )
+          let g = gone_set (i.0 m) (ready s) (ready_of s.clock seats') s.seats u k y in_seats rises (i.1.keeps m u b (sym (with_other i.0 n t c m u w) ∙ q) (sym (with_other s.kept n t c m u w) ∙ r)) tt in
+          (g.0, has g.0 g.1.0 g.1.1 (cases_two n t m g.0), g.2, g.3, g.4)
         where
           has : (v : ℕ) (x : Card) → i.0 m v ≡ Some x → ((m ≡ n) × (v ≡ t)) ⊎ (m ≡ n → v ≡ t → ⊥) → (x : Card) × (with_card i.0 n t c m v ≡ Some x)
           has v x z (inl w) = (c, with_same i.0 n t c m v w.0 w.1)
           has v x z (inr w) = (x, with_other i.0 n t c m v w ∙ z)
 
 module _ (h : List Event) (s : State) (i : Inv h s) (k : ℕ) where
-  put_left : k < 16 → (t p : ℕ) → (seat s k).stage ≡ stage.Stamped t p → (l : List Draft) → drop p (seat s k).drafts ≡ l →
-      let q : State × Result ℕ Refusal = put_next s k t p l in Inv (event (call.Put k) (answered answer.Number q.1) ∷ h) q.0
+  put_left : k < 16 → (t p : ℕ) → (seat s k).stage ≡ stage.Stamped t p → (l : List Draft) → drop p (seat s k).drafts ≡ l → Keeps h (call.Put k) (told answer.Number (put_next s k t p l))
   put_left lt t p at [] e = i
-  put_left lt t p at (d ∷ rest) e =
-      subst (λ (o : Option Refusal). Inv (event (call.Put k) (answered answer.Number (put_draft s k t p d o).1) ∷ h) (put_draft s k t p d o).0)
-      (sym (put_taken h s i k lt t p at d rest e)) (put_done h s i k lt t p at d rest e)
+  put_left lt t p at (d ∷ rest) e = rw (put_taken h s i k lt t p at d rest e) (put_done h s i k lt t p at d rest e)
 
-  pub put_keeps : (b : Bool) → ltb k 16 ≡ b → (g : Stage) → (seat s k).stage ≡ g →
-      let p : State × Result ℕ Refusal = cond b (put_at s k g) (s, Err why.Seat) in Inv (event (call.Put k) (answered answer.Number p.1) ∷ h) p.0
-  put_keeps false lt g at = i
-  put_keeps true lt stage.Idle at = i
-  put_keeps true lt (stage.Proof t) at = i
-  put_keeps true lt (stage.Edit t) at = i
-  put_keeps true lt (stage.Locked t) at = i
-  put_keeps true lt (stage.Stamped t p) at = put_left (ltb-true k 16 lt) t p at (drop p (seat s k).drafts) refl
+  pub put_keeps : (g : Stage) → (seat s k).stage ≡ g → k < 16 → Keeps h (call.Put k) (told answer.Number (put_at s k g))
+  put_keeps (stage.Stamped t p) at lt = put_left lt t p at (drop p (seat s k).drafts) refl
+  put_keeps g at lt = i

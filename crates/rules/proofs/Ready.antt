@@ -1,17 +1,15 @@
 -- The ready point and the floor.
-use Rattle.std.proofs.Common.{◌≡◌, ℕ, zero, suc, ◌-◌, ◌<◌, ◌≤◌, List, [], ◌∷◌, length, get_or, refl, ◌∙◌, arith}
+use Rattle.std.proofs.Common.{◌≡◌, ℕ, zero, suc, ◌-◌, ◌<◌, ◌≤◌, List, [], ◌∷◌, length, get_or, set, refl, ◌∙◌, arith}
 use Rattle.rules.specs.State.{Draft}
 use Rattle.rules.specs.declared.stage.Stage.{Stage}
 use Rattle.rules.specs.declared.stage.Stage.TheVariants as stage
 use Rattle.rules.specs.State.{Seat, idle, bound, ready_of, lower, floor_of}
+use Rattle.rules.proofs.Drafts.{all_set}
 
 -- what is left to put is above b
 abbrev pub LateAt : ℕ → List Draft → Stage → Type 0
-LateAt b ds stage.Idle = Unit {0}
-LateAt b ds (stage.Proof t) = Unit {0}
-LateAt b ds (stage.Edit t) = Unit {0}
-LateAt b ds (stage.Locked t) = Unit {0}
 LateAt b ds (stage.Stamped t p) = p < length ds → b ≤ t - 1
+LateAt b ds g = Unit {0}
 
 abbrev pub Late : ℕ → Seat → Type 0
 Late b x = LateAt b x.drafts x.stage
@@ -38,13 +36,14 @@ pub ready_most : (b clock : ℕ) (xs : List Seat) → b ≤ clock → ((k : ℕ)
 ready_most b clock [] l h = l
 ready_most b clock (x ∷ xs) l h = let p = bound_most b clock x.drafts x.stage l (h 0) in let q = ready_most b clock xs l (λ k. h (suc k)) in omega arith
 
+-- it does not fall where a seat changes to one that has nothing left to put below it
+pub ready_set : (clock c : ℕ) (xs : List Seat) (k : ℕ) (y : Seat) → k < length xs → ready_of clock xs ≤ c → Late (ready_of clock xs) y → ready_of clock xs ≤ ready_of c (set xs k y)
+ready_set clock c xs k y l m late = ready_most (ready_of clock xs) c (set xs k y) m (all_set (λ (j : ℕ) (x : Seat). Late (ready_of clock xs) x) xs k y l (λ j ne. ready_late clock xs j) late)
+
 -- an open proof starts outside of t up to just before g
 abbrev pub Off : ℕ → ℕ → Stage → Type 0
-Off t g stage.Idle = Unit {0}
 Off t g (stage.Proof u) = t ≤ u → g ≤ u
-Off t g (stage.Edit u) = Unit {0}
-Off t g (stage.Locked u) = Unit {0}
-Off t g (stage.Stamped u p) = Unit {0}
+Off t g x = Unit {0}
 
 off_lower : (t g f : ℕ) (x : Stage) → g ≤ lower x f → Off t g x
 off_lower t g f x l = grind arith
@@ -63,11 +62,8 @@ floor_off r (x ∷ xs) t g l (suc k) = let e = lower_le (floor_of r xs) x.stage 
 
 -- with no proof open the floor is the ready point
 abbrev pub NoProof : Stage → Type 0
-NoProof stage.Idle = Unit {0}
 NoProof (stage.Proof u) = ⊥
-NoProof (stage.Edit u) = Unit {0}
-NoProof (stage.Locked u) = Unit {0}
-NoProof (stage.Stamped u p) = Unit {0}
+NoProof x = Unit {0}
 
 lower_same : (f : ℕ) (x : Stage) → NoProof x → lower x f ≡ f
 lower_same f x h = grind arith

@@ -1,5 +1,5 @@
 -- A seat is changed and no version is put: eight of the eleven calls.
-use Rattle.std.proofs.Common.{◌≡◌, ℕ, ◌<◌, ◌≤◌, Bool, true, ◌⊎◌, List, [], ◌∷◌, length, get_or, set, Some, sym, refl, ◌∙◌, subst, inl, inr, arith}
+use Rattle.std.proofs.Common.{◌≡◌, ℕ, ◌<◌, ◌≤◌, Bool, true, ◌⊎◌, List, [], ◌∷◌, length, get_or, set, Some, refl, ◌∙◌, inl, inr, arith}
 use Rattle.std.proofs.lemmas.Bool.{cases_eq}
 use Rattle.std.proofs.lemmas.List.{get_or-set_other, length-set}
 use Rattle.rules.specs.State.{Draft}
@@ -9,10 +9,10 @@ use Rattle.cards.specs.Versions.{Kept}
 use Rattle.rules.specs.State.{Seat, idle, Row, free_row, State, size, seat, row, ready, ready_of, unput_of, with_seat, with_rows}
 use Rattle.rules.specs.Account.{Desk, Account}
 use Rattle.rules.specs.Law.{All}
-use Rattle.rules.proofs.Drafts.{Once, all_set, unput_set}
+use Rattle.rules.proofs.Drafts.{all_set, unput_set}
 use Rattle.rules.proofs.Latest.{card_same}
-use Rattle.rules.proofs.Ready.{Late, LateAt, Off, ready_late, ready_le, ready_most}
-use Rattle.rules.proofs.Inv.{Env, Seen, Edits, Stamps, SeatAt, SeatOk, WaitsAt, Waits, env, Clauses}
+use Rattle.rules.proofs.Ready.{LateAt, Off, ready_le, ready_set}
+use Rattle.rules.proofs.Inv.{Env, Seen, Edits, Stamps, SeatAt, SeatOk, WaitsAt, Waits, gone_set, env, Clauses}
 
 pub all_map : {X : Type 0} (P Q : X → Type 0) (xs : List X) → ((x : X) → P x → Q x) → All P xs → All Q xs
 all_map P Q [] f h = tt
@@ -32,7 +32,7 @@ edits_around e f j seen d reads ds t g r h = (
   h.0,
   h.1,
   h.2,
-  subst (λ (N : ℕ). Once N ds) (sym r.total) h.3,
+  rw r.total h.3,
   (let c = r.clock in let l = h.4 in omega arith),
   all_map (Seen e.wrote t reads) (Seen f.wrote t reads) seen
       (λ x q. (q.0, card_same f.wrote e.wrote t x.entry (λ u l. r.wrote u x.entry (let m = h.4 in omega arith)) ∙ q.1)) h.5,
@@ -49,18 +49,15 @@ seat_around e f j seen d reads ds (stage.Stamped t p) r h = (
   h.2,
   (let c = r.clock in let l = h.3 in omega arith),
   (λ n. r.wrote t n h.3 ∙ h.4 n),
-  subst (λ (N : ℕ). Once N ds) (sym r.total) h.5,
+  rw r.total h.5,
   (λ n c q. (r.rows n (h.6 n c q)).0),
   λ n c q. let w = (r.rows n (h.6 n c q)).1 in let l = h.7 n c q in omega arith,
 )
 
 -- a seat that is not stamped
 abbrev pub Plain : Stage → Type 0
-Plain stage.Idle = Unit {0}
-Plain (stage.Proof t) = Unit {0}
-Plain (stage.Edit t) = Unit {0}
-Plain (stage.Locked t) = Unit {0}
 Plain (stage.Stamped t p) = ⊥
+Plain g = Unit {0}
 
 late_plain : (b : ℕ) (ds : List Draft) (g : Stage) → Plain g → LateAt b ds g
 late_plain b ds g h = grind arith
@@ -112,13 +109,7 @@ module _ (a : Account) (saw : ℕ → List Draft) (put : Kept) (s : State) (i : 
         row_top = λ n t c u. rw (q.times n) (i.row_top n t c u);
         row_in = λ n. rw (q.times n) (i.row_in n);
         only = i.only;
-        keeps = λ n t c u v. let g = i.keeps n t c u v in (
-          g.0,
-          g.1,
-          g.2,
-          (let l = g.3 in let m = rises in omega arith),
-          all_set (λ (j : ℕ) (x : Seat). Off t g.0 x.stage) s.seats k y in_list (λ j ne. g.4 j) (q.off t g.0 g.3),
-        );
+        keeps = λ n t c u v. let g = i.keeps n t c u v in gone_set (put n) (ready s) (ready_of s.clock seats') s.seats t k y in_list rises g (q.off t g.0 g.3);
         room = let z = unput_set s.seats k y in_list in let w = count_plain y.drafts y.stage q.plain in let l = i.room in omega arith;
       }
     where
@@ -129,8 +120,7 @@ module _ (a : Account) (saw : ℕ → List Draft) (put : Kept) (s : State) (i : 
       in_list = rw i.sixteen inside
 
       rises : ready s ≤ ready_of s.clock seats'
-      rises = ready_most (ready s) s.clock seats' (ready_le s.clock s.seats)
-          (all_set (λ (j : ℕ) (x : Seat). Late (ready s) x) s.seats k y in_list (λ j ne. ready_late s.clock s.seats j) (late_plain (ready s) y.drafts y.stage q.plain))
+      rises = ready_set s.clock s.clock s.seats k y in_list (ready_le s.clock s.seats) (late_plain (ready s) y.drafts y.stage q.plain)
 
       e' : Env
       e' = record { total = size s; clock = s.clock; ready = ready_of s.clock seats'; rows = rows_of rs; wrote = a.wrote; settled = settled' }
@@ -148,5 +138,5 @@ module _ (a : Account) (saw : ℕ → List Draft) (put : Kept) (s : State) (i : 
       waits n t w = (w.0, go (cases_eq w.0 k))
         where
           go : (w.0 ≡ k) ⊎ (w.0 ≡ k → ⊥) → Waits n t (get_or seats' w.0 idle)
-          go (inl e) = absurd (q.calm n t (subst (λ (j : ℕ). Waits n t (seat s j)) e w.1))
-          go (inr e) = subst (λ (x : Seat). Waits n t x) (sym (get_or-set_other s.seats k w.0 y idle e)) w.1
+          go (inl e) = absurd (q.calm n t (rw e at w.1))
+          go (inr e) = rw (get_or-set_other s.seats k w.0 y idle e) w.1

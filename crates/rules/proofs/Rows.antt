@@ -1,6 +1,6 @@
 -- What lock, drop and the tests do to rows and reading lists.
-use Rattle.std.proofs.Common.{◌≡◌, ℕ, ◌-◌, ◌<◌, ◌≤◌, Bool, true, false, cond, eqb, ◌⊎◌, List, [], ◌∷◌, ◌++◌, map, length, get_or, set, Some, None, Option, sym, refl, ◌∙◌, subst, inl, inr, arith}
-use Rattle.std.proofs.lemmas.Bool.{eqb-true, eqb-false, cases_eq}
+use Rattle.std.proofs.Common.{◌≡◌, ℕ, ◌-◌, ◌≤◌, true, false, ◌⊎◌, List, [], ◌∷◌, ◌++◌, map, length, get_or, set, Some, None, Option, refl, ◌∙◌, inl, inr, arith}
+use Rattle.std.proofs.lemmas.Bool.{cases_eq}
 use Rattle.std.proofs.lemmas.List.{get_or-set_same, get_or-set_other, length-set, set_past}
 use Rattle.cards.specs.declared.card.Card.{Card}
 use Rattle.rules.specs.State.{Draft, Row, free_row, look, has, any_held, any_stale, entry_of, locked, taken, unless, freed, released}
@@ -37,7 +37,7 @@ set_row P rs m r n old new = go (cases_eq n m) (cases_eq (length rs - n) 0)
   where
     go : (n ≡ m) ⊎ (n ≡ m → ⊥) → (length rs - n ≡ 0) ⊎ (length rs - n ≡ 0 → ⊥) → P (get_or (set rs m r) n free_row)
     go (inl e) (inl z) = rw (set_past rs m r (omega arith)) old
-    go (inl e) (inr z) = let l : m < length rs = omega arith in rw (e, get_or-set_same rs m r free_row l) (new e)
+    go (inl e) (inr z) = rw (e, get_or-set_same rs m r free_row (omega arith)) (new e)
     go (inr e) z = rw (get_or-set_other rs m n r free_row e) old
 
 -- the rows of drafted entries, each changed by f
@@ -54,7 +54,7 @@ each_keeps : (f : Row → Row) (P : Row → Type 0) → ((r : Row) → P r → P
 each_keeps f P keep rs [] n h = h
 each_keeps f P keep rs (d ∷ ds) n h =
     each_keeps f P keep _ ds n
-    (set_row P rs d.entry (f (get_or rs d.entry free_row)) n h (λ e. keep _ (subst (λ (m : ℕ). P (get_or rs m free_row)) e h)))
+    (set_row P rs d.entry (f (get_or rs d.entry free_row)) n h (λ e. keep _ (rw e at h)))
 
 taken_each : (rs : List Row) (k : ℕ) (ds : List Draft) → taken rs k ds ≡ each (locked k) rs ds
 taken_each rs k [] = refl
@@ -86,23 +86,10 @@ released_other rs k ds n j ne h = rw (released_each rs k ds) (each_keeps (freed 
 pub taken_mine : (rs : List Row) (k : ℕ) (ds : List Draft) → Once (length rs) ds → (n : ℕ) (c : Card) → look ds n ≡ Some c → (get_or (taken rs k ds) n free_row).lock ≡ Some k
 taken_mine rs k [] o n c h = absurd (some≢none _ c h refl)
 taken_mine rs k (d ∷ ds) o n c h =
-    go (eqb n d.entry) refl h
-    (taken_mine (set rs d.entry (locked k (get_or rs d.entry free_row))) k ds (subst (λ (N : ℕ). Once N ds) (sym (length-set rs d.entry _)) o.2) n c)
-  where
-    rs' : List Row
-    rs' = set rs d.entry (locked k (get_or rs d.entry free_row))
-
-    go : (b : Bool) → eqb n d.entry ≡ b → cond b (Some d.card) (look ds n) ≡ Some c → (look ds n ≡ Some c → (get_or (taken rs' k ds) n free_row).lock ≡ Some k) → (get_or (taken rs' k ds) n free_row).lock ≡ Some k
-    go true e x r = taken_stays rs' k ds n (rw (eqb-true n d.entry e, get_or-set_same rs d.entry (locked k (get_or rs d.entry free_row)) free_row o.0))
-    go false e x r = r x
+    let rs' = set rs d.entry (locked k (get_or rs d.entry free_row)) in
+    let r = taken_mine rs' k ds (rw (length-set rs d.entry (locked k (get_or rs d.entry free_row))) o.2) n c in
+    let q = taken_stays rs' k ds n in grind (arith, get_or-set_same)
 
 pub taken_free : (rs : List Row) (k : ℕ) (ds : List Draft) (n : ℕ) → look ds n ≡ None → get_or (taken rs k ds) n free_row ≡ get_or rs n free_row
 taken_free rs k [] n h = refl
-taken_free rs k (d ∷ ds) n h = go (eqb n d.entry) refl h (taken_free (set rs d.entry (locked k (get_or rs d.entry free_row))) k ds n)
-  where
-    rs' : List Row
-    rs' = set rs d.entry (locked k (get_or rs d.entry free_row))
-
-    go : (b : Bool) → eqb n d.entry ≡ b → cond b (Some d.card) (look ds n) ≡ None → (look ds n ≡ None → get_or (taken rs' k ds) n free_row ≡ get_or rs' n free_row) → get_or (taken rs' k ds) n free_row ≡ get_or rs n free_row
-    go true e x r = absurd (some≢none _ d.card refl x)
-    go false e x r = r x ∙ get_or-set_other rs d.entry n (locked k (get_or rs d.entry free_row)) free_row (eqb-false n d.entry e)
+taken_free rs k (d ∷ ds) n h = let r = taken_free (set rs d.entry (locked k (get_or rs d.entry free_row))) k ds n in grind (arith, get_or-set_other)

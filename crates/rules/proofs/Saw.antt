@@ -1,6 +1,7 @@
 -- What an edit has read where it had no draft.
-use Rattle.std.proofs.Common.{ℕ, cond, eqb, List, [], ◌∷◌, Some, None, Option}
+use Rattle.std.proofs.Common.{ℕ, cond, eqb, List, [], ◌∷◌, Some, None, Ok, Option, Result}
 use Rattle.cards.specs.declared.card.Card.{Card}
+use Rattle.cards.specs.declared.refusal.Refusal.{Refusal}
 use Rattle.rules.specs.State.{Draft}
 use Rattle.rules.specs.declared.call.Call.{Call}
 use Rattle.rules.specs.declared.call.Call.TheVariants as call
@@ -8,7 +9,7 @@ use Rattle.rules.specs.declared.answer.Answer.{Answer}
 use Rattle.rules.specs.declared.answer.Answer.TheVariants as answer
 use Rattle.cards.specs.Cards.{blank_card}
 use Rattle.rules.specs.Runs.{Event}
-use Rattle.rules.specs.Account.{Desk, Free, Reading, Drafting, Given, granted, account}
+use Rattle.rules.specs.Account.{Desk, Drafting, granted, account}
 
 -- what a seat's edit has read where it had no draft, with the card that it got
 abbrev pub saw_undrafted : ℕ → Card → List Draft → Option Card → List Draft
@@ -16,29 +17,17 @@ saw_undrafted n c old None = record { entry = n; card = c } ∷ old
 saw_undrafted n c old (Some x) = old
 
 abbrev pub saw_desk : ℕ → Card → List Draft → Desk → List Draft
-saw_desk n c old Free = old
-saw_desk n c old (Reading t) = old
 saw_desk n c old (Drafting t f) = saw_undrafted n c old (f n)
-saw_desk n c old (Given t) = old
+saw_desk n c old d = old
 
-abbrev pub card_of : Answer → Card
-card_of (answer.Number t) = blank_card
-card_of (answer.Card c) = c
-card_of answer.Done = blank_card
-card_of (answer.Declined r) = blank_card
+abbrev pub card_of : Result Answer Refusal → Card
+card_of (Ok (answer.Card c)) = c
+card_of x = blank_card
 
 abbrev pub saw_by : (ℕ → List Draft) → (ℕ → Desk) → Call → Card → ℕ → List Draft
-saw_by old desk (call.Proof k) x j = old j
 saw_by old desk (call.Edit k) x j = cond (eqb j k) [] (old j)
 saw_by old desk (call.Read k n) x j = cond (eqb j k) (saw_desk n x (old j) (desk j)) (old j)
-saw_by old desk (call.Write k n c) x j = old j
-saw_by old desk (call.Lock k) x j = old j
-saw_by old desk (call.Stamp k) x j = old j
-saw_by old desk (call.Put k) x j = old j
-saw_by old desk (call.Settle k) x j = old j
-saw_by old desk (call.Drop k) x j = old j
-saw_by old desk (call.End k) x j = old j
-saw_by old desk (call.Collect n) x j = old j
+saw_by old desk c x j = old j
 
 abbrev pub saw : List Event → ℕ → List Draft
 saw [] j = []

@@ -1,7 +1,8 @@
 -- The account: a plain machine, fed each call with its arguments, whether it was granted, and a proof's answer.
-use Rattle.std.specs.Prelude.{ℕ, zero, suc, Bool, true, false, cond, List, [], ◌∷◌, Some, None, Option, ◌==◌}
+use Rattle.std.specs.Prelude.{ℕ, zero, suc, Bool, true, false, cond, List, [], ◌∷◌, Some, None, Ok, Err, Option, Result, ◌==◌}
 use Rattle.std.specs.Option.{unwrap_or}
 use Rattle.cards.specs.declared.card.Card.{Card}
+use Rattle.cards.specs.declared.refusal.Refusal.{Refusal}
 use Rattle.rules.specs.declared.call.Call.{Call}
 use Rattle.rules.specs.declared.call.Call.TheVariants as call
 use Rattle.rules.specs.declared.answer.Answer.{Answer}
@@ -32,18 +33,16 @@ abbrev pub empty : Account
 empty = record { last = 0; wrote = λ t n. None; settled = λ t. false; desk = λ k. Free }
 
 -- whether a call was granted
-abbrev pub granted : Answer → Bool
-granted (answer.Number t) = true
-granted (answer.Card c) = true
-granted answer.Done = true
-granted (answer.Declined r) = false
+abbrev pub granted : Result Answer Refusal → Bool
+granted (Ok x) = true
+granted (Err r) = false
 
 -- the number that it gave
-abbrev pub number : Answer → ℕ
-number (answer.Number t) = t
-number (answer.Card c) = 0
-number answer.Done = 0
-number (answer.Declined r) = 0
+abbrev pub number : Result Answer Refusal → ℕ
+number (Ok (answer.Number t)) = t
+number (Ok (answer.Card c)) = 0
+number (Ok answer.Done) = 0
+number (Err r) = 0
 
 -- another desk on the seat k
 abbrev pub at_desk : Account → ℕ → Desk → Account

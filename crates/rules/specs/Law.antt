@@ -1,5 +1,5 @@
 -- The law: what proofs and edits saw in a run fits the stamped edits, run one at a time.
-use Rattle.std.specs.Prelude.{◌≡◌, ℕ, ◌+◌, ◌<◌, ◌≤◌, true, false, ◌⊎◌, List, [], ◌∷◌, ◌++◌, Some, None, Option, ◌≢◌}
+use Rattle.std.specs.Prelude.{◌≡◌, ℕ, ◌+◌, ◌<◌, ◌≤◌, true, false, ◌⊎◌, List, [], ◌∷◌, ◌++◌, Some, None, Ok, Err, Option, Result, ◌≢◌}
 use Rattle.std.specs.Option.{unwrap_or}
 use Rattle.cards.specs.declared.card.Card.{Card}
 use Rattle.cards.specs.declared.refusal.Refusal.{Refusal}
@@ -15,7 +15,7 @@ use Rattle.rules.specs.declared.call.Call.TheVariants as call
 -- ---- words that the law uses; events stand newest first
 
 -- after the events `earlier` the call c was answered a, and after that came the events `later`
-abbrev pub Happened : List Event → List Event → Call → Answer → List Event → Type 0
+abbrev pub Happened : List Event → List Event → Call → Result Answer Refusal → List Event → Type 0
 Happened h later c a earlier = h ≡ later ++ (event c a ∷ earlier)
 
 -- each of a list
@@ -72,7 +72,7 @@ Collects h = All (λ (v : Event). IsCollect v.call) h
 -- a collect of n was declined
 abbrev pub Declined : ℕ → List Event → Type 0
 Declined n [] = ⊥
-Declined n (v ∷ h) = ((v.call ≡ call.Collect n) × ((r : Refusal) × (v.answer ≡ answer.Declined r))) ⊎ Declined n h
+Declined n (v ∷ h) = ((v.call ≡ call.Collect n) × ((r : Refusal) × (v.answer ≡ Err r))) ⊎ Declined n h
 
 -- of an entry that no stamped edit drafted nothing is held; of any other one version, with its card after the last time
 abbrev pub OneLeft : Account → (ℕ → Option Card) → ℕ → Type 0
@@ -101,47 +101,47 @@ form_of (call.Drop k) = done_form
 form_of (call.End k) = done_form
 form_of (call.Collect n) = number_form
 
--- an answer is of a form, or a refusal
-abbrev pub HasForm : Form → Answer → Type 0
-HasForm f (answer.Number t) = f ≡ number_form
-HasForm f (answer.Card c) = f ≡ card_form
-HasForm f answer.Done = f ≡ done_form
-HasForm f (answer.Declined r) = Unit {0}
+-- a call is answered in a form, or declined
+abbrev pub HasForm : Form → Result Answer Refusal → Type 0
+HasForm f (Ok (answer.Number t)) = f ≡ number_form
+HasForm f (Ok (answer.Card c)) = f ≡ card_form
+HasForm f (Ok answer.Done) = f ≡ done_form
+HasForm f (Err r) = Unit {0}
 
 -- ---- the law
 
 -- Of the events h, which led to the state s. Cards are those after the stamped edits of the whole run.
 pub record Law (h : List Event) (s : State) : Type 0 where
   -- a granted edit answers the last time given, a granted stamp the next
-  pub edit_answers_last_time : (later earlier : List Event) (k t : ℕ) → Happened h later (call.Edit k) (answer.Number t) earlier → t ≡ (account earlier).last
-  pub stamp_answers_next_time : (later earlier : List Event) (k t : ℕ) → Happened h later (call.Stamp k) (answer.Number t) earlier → t ≡ (account earlier).last + 1
+  pub edit_answers_last_time : (later earlier : List Event) (k t : ℕ) → Happened h later (call.Edit k) (Ok (answer.Number t)) earlier → t ≡ (account earlier).last
+  pub stamp_answers_next_time : (later earlier : List Event) (k t : ℕ) → Happened h later (call.Stamp k) (Ok (answer.Number t)) earlier → t ≡ (account earlier).last + 1
   -- an edit's granted read gives its draft there, or without one the card there after its start
-  pub edit_reads_draft_or_start : (later earlier : List Event) (k n u : ℕ) (f : ℕ → Option Card) (c : Card) → Happened h later (call.Read k n) (answer.Card c) earlier →
+  pub edit_reads_draft_or_start : (later earlier : List Event) (k n u : ℕ) (f : ℕ → Option Card) (c : Card) → Happened h later (call.Read k n) (Ok (answer.Card c)) earlier →
       (account earlier).desk k ≡ Drafting u f → c ≡ unwrap_or (f n) (card_after (account h).wrote u n)
   -- where it had no draft and that edit is stamped, that card stands at every time from its start to just before its own
   pub read_stands_until_stamp : (later middle earlier : List Event) (k n t u : ℕ) (f : ℕ → Option Card) (c : Card) →
-      Happened h later (call.Stamp k) (answer.Number t) (middle ++ (event (call.Read k n) (answer.Card c) ∷ earlier)) → (account earlier).desk k ≡ Drafting u f → f n ≡ None → SameEdit k middle →
+      Happened h later (call.Stamp k) (Ok (answer.Number t)) (middle ++ (event (call.Read k n) (Ok (answer.Card c)) ∷ earlier)) → (account earlier).desk k ≡ Drafting u f → f n ≡ None → SameEdit k middle →
       (T : ℕ) → u ≤ T → T < t → card_after (account h).wrote T n ≡ c
   -- a proof's start is no later than the last time then given, and no earlier than the time of any edit settled before
-  pub proof_starts_settled : (later earlier : List Event) (k t : ℕ) → Happened h later (call.Proof k) (answer.Number t) earlier →
+  pub proof_starts_settled : (later earlier : List Event) (k t : ℕ) → Happened h later (call.Proof k) (Ok (answer.Number t)) earlier →
       (t ≤ (account earlier).last) × ((u : ℕ) → (account earlier).settled u ≡ true → u ≤ t)
   -- a proof's granted read gives the card after its start, and its read of an entry of the store is never declined
-  pub proof_reads_start : (later earlier : List Event) (k n u : ℕ) (c : Card) → Happened h later (call.Read k n) (answer.Card c) earlier →
+  pub proof_reads_start : (later earlier : List Event) (k n u : ℕ) (c : Card) → Happened h later (call.Read k n) (Ok (answer.Card c)) earlier →
       (account earlier).desk k ≡ Reading u → c ≡ card_after (account h).wrote u n
-  pub proof_read_granted : (later earlier : List Event) (k n u : ℕ) (r : Refusal) → Happened h later (call.Read k n) (answer.Declined r) earlier →
+  pub proof_read_granted : (later earlier : List Event) (k n u : ℕ) (r : Refusal) → Happened h later (call.Read k n) (Err r) earlier →
       (account earlier).desk k ≡ Reading u → size s ≤ n
   -- once no proof is open and all stamped edits are settled, collects alone, on each entry until declined, leave just one
   -- version of each entry that a stamped edit drafted, with its card after the last time, and no other version
   pub collects_leave_one : (later earlier : List Event) → h ≡ later ++ earlier → Quiet (account earlier) → Collects later → ((n : ℕ) → n < size s → Declined n later) →
       (n : ℕ) → OneLeft (account h) (s.kept n) n
   -- a read is granted only where a proof or an edit is open, a stamp only where an edit is; each answer is of its call's form
-  pub read_needs_open : (later earlier : List Event) (k n : ℕ) (c : Card) → Happened h later (call.Read k n) (answer.Card c) earlier → Open ((account earlier).desk k)
-  pub stamp_needs_edit : (later earlier : List Event) (k t : ℕ) → Happened h later (call.Stamp k) (answer.Number t) earlier → EditsThere ((account earlier).desk k)
-  pub answer_has_form : (later earlier : List Event) (c : Call) (a : Answer) → Happened h later c a earlier → HasForm (form_of c) a
+  pub read_needs_open : (later earlier : List Event) (k n : ℕ) (c : Card) → Happened h later (call.Read k n) (Ok (answer.Card c)) earlier → Open ((account earlier).desk k)
+  pub stamp_needs_edit : (later earlier : List Event) (k t : ℕ) → Happened h later (call.Stamp k) (Ok (answer.Number t)) earlier → EditsThere ((account earlier).desk k)
+  pub answer_has_form : (later earlier : List Event) (c : Call) (a : Result Answer Refusal) → Happened h later c a earlier → HasForm (form_of c) a
   -- put is declined only by Seat or Stage: the keeper takes every draft
-  pub put_is_taken : (later earlier : List Event) (k : ℕ) (r : Refusal) → Happened h later (call.Put k) (answer.Declined r) earlier → (r ≡ why.Seat) ⊎ (r ≡ why.Stage)
+  pub put_is_taken : (later earlier : List Event) (k : ℕ) (r : Refusal) → Happened h later (call.Put k) (Err r) earlier → (r ≡ why.Seat) ⊎ (r ≡ why.Stage)
   -- a call that is declined leaves the state as it was
-  pub declined_changes_nothing : (c : Call) (r : Refusal) → (step s c).1 ≡ answer.Declined r → (step s c).0 ≡ s
+  pub declined_changes_nothing : (c : Call) (r : Refusal) → (step s c).1 ≡ Err r → (step s c).0 ≡ s
   -- the clock never passes 1,000,000, so that stamp is declined by Clock exactly there
   pub clock_ends : s.clock ≤ 1000000
 

@@ -1,7 +1,8 @@
 -- Each call and each answer as its number and its values.
-use Rattle.std.specs.Prelude.{ℕ, List, [], ◌∷◌, Some, None, Option}
+use Rattle.std.specs.Prelude.{ℕ, List, [], ◌∷◌, Some, None, Ok, Err, Option, Result}
 use Rattle.cards.specs.Refusals.{number_of}
 use Rattle.cards.specs.declared.card.Card.{Card}
+use Rattle.cards.specs.declared.refusal.Refusal.{Refusal}
 use Rattle.rules.specs.declared.answer.Answer.{Answer}
 use Rattle.rules.specs.declared.answer.Answer.TheVariants as answer
 use Rattle.rules.specs.declared.call.Call.{Call}
@@ -31,8 +32,8 @@ call_told (call.End k) = told_of 10 (k ∷ []) None
 call_told (call.Collect n) = told_of 11 (n ∷ []) None
 
 -- an answer: 0 where the call is granted, with what it gives, else the refusal's number
-abbrev pub answer_told : Answer → Told
-answer_told (answer.Number t) = told_of 0 (t ∷ []) None
-answer_told (answer.Card c) = told_of 0 [] (Some c)
-answer_told answer.Done = told_of 0 [] None
-answer_told (answer.Declined r) = told_of (number_of r) [] None
+abbrev pub answer_told : Result Answer Refusal → Told
+answer_told (Ok (answer.Number t)) = told_of 0 (t ∷ []) None
+answer_told (Ok (answer.Card c)) = told_of 0 [] (Some c)
+answer_told (Ok answer.Done) = told_of 0 [] None
+answer_told (Err r) = told_of (number_of r) [] None

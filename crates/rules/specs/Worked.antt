@@ -1,11 +1,12 @@
 -- The worked cases: runs of a small store with every answer, and cards with their packed bytes.
-use Rattle.std.specs.Prelude.{◌≡◌, ℕ, zero, suc, ◌+◌, ◌-◌, cond, List, [], ◌∷◌, replicate, pos, negsuc, is_some, Some, None, Option, ◌==◌}
+use Rattle.std.specs.Prelude.{◌≡◌, ℕ, zero, suc, ◌+◌, ◌-◌, cond, List, [], ◌∷◌, replicate, pos, negsuc, is_some, Some, None, Ok, Err, Option, Result, ◌==◌}
 use Rattle.std.specs.Option.{option_map}
 use Rattle.cards.specs.Cards.{blank_card}
 use Rattle.cards.specs.Packed.{packed, unpack_refusal}
 use Rattle.cards.specs.Refusals.{number_of}
 use Rattle.cards.specs.Versions.{Kept}
 use Rattle.cards.specs.declared.card.Card.{Card}
+use Rattle.cards.specs.declared.refusal.Refusal.{Refusal}
 use Rattle.cards.specs.declared.refusal.Refusal.TheVariants as why
 use Rattle.rules.specs.Runs.{answers}
 use Rattle.rules.specs.State.{State, idle, free_row}
@@ -43,7 +44,7 @@ small places = record {
 
 -- calls on a new small store of so many places, with their answers; a card with its bytes; bytes with the number that they get
 pub data Case : Type 0 where
-  runs : ℕ → List Call → List Answer → Case
+  runs : ℕ → List Call → List (Result Answer Refusal) → Case
   packs : Card → List ℕ → Case
   declined : List ℕ → ℕ → Case
 
@@ -69,70 +70,70 @@ wide_and_low = record { advance = Some (pos 620); left_bearing = None; anchor_ac
 abbrev pub tight : Card
 tight = record { advance = None; left_bearing = None; anchor_across = None; anchor_up = None; mark_class = None; kern = Some (negsuc 39) }
 
-abbrev n# : ℕ → Answer
-n# t = answer.Number t
+abbrev n# : ℕ → Result Answer Refusal
+n# t = Ok (answer.Number t)
 
 -- ---- the cases
 
 -- a pair written with map 1 gets 4
 abbrev pub misfit : Case
-misfit = runs 8 (call.Edit 1 ∷ call.Write 1 3 (wide 5) ∷ []) (n# 0 ∷ answer.Declined why.Misfit ∷ [])
+misfit = runs 8 (call.Edit 1 ∷ call.Write 1 3 (wide 5) ∷ []) (n# 0 ∷ Err why.Misfit ∷ [])
 
 -- seat 1 has read 1 and locked 0, seat 2 has locked 1: seat 1's stamp gets 5, and after seat 2 has settled 6.
 -- So no edit takes a time after another has changed what it read.
 abbrev pub overtaken : Case
 overtaken = runs 8
     (call.Edit 1 ∷ call.Edit 2 ∷ call.Read 1 1 ∷ call.Write 1 0 (wide 1) ∷ call.Lock 1 ∷ call.Write 2 1 (wide 2) ∷ call.Lock 2 ∷ call.Stamp 1 ∷ call.Stamp 2 ∷ call.Put 2 ∷ call.Settle 2 ∷ call.Stamp 1 ∷ [])
-    (n# 0 ∷ n# 0 ∷ answer.Card blank_card ∷ answer.Done ∷ n# 1 ∷ answer.Done ∷ n# 1 ∷ answer.Declined why.Held ∷ n# 1 ∷ n# 0 ∷ n# 1 ∷ answer.Declined why.Stale ∷ [])
+    (n# 0 ∷ n# 0 ∷ Ok (answer.Card blank_card) ∷ Ok answer.Done ∷ n# 1 ∷ Ok answer.Done ∷ n# 1 ∷ Err why.Held ∷ n# 1 ∷ n# 0 ∷ n# 1 ∷ Err why.Stale ∷ [])
 
 -- times 1 and 2, only 2 put: settling 2 gets 11, and once 1 is put it answers 2. So no edit is settled while a lesser time is
 -- not ready, and a proof begun next has it.
 abbrev pub waiting : Case
 waiting = runs 8
     (call.Edit 1 ∷ call.Edit 2 ∷ call.Write 1 0 (wide 1) ∷ call.Write 2 1 (wide 2) ∷ call.Lock 1 ∷ call.Lock 2 ∷ call.Stamp 1 ∷ call.Stamp 2 ∷ call.Put 2 ∷ call.Settle 2 ∷ call.Put 1 ∷ call.Settle 2 ∷ call.Proof 3 ∷ [])
-    (n# 0 ∷ n# 0 ∷ answer.Done ∷ answer.Done ∷ n# 1 ∷ n# 1 ∷ n# 1 ∷ n# 2 ∷ n# 0 ∷ answer.Declined why.Waiting ∷ n# 0 ∷ n# 2 ∷ n# 2 ∷ [])
+    (n# 0 ∷ n# 0 ∷ Ok answer.Done ∷ Ok answer.Done ∷ n# 1 ∷ n# 1 ∷ n# 1 ∷ n# 2 ∷ n# 0 ∷ Err why.Waiting ∷ n# 0 ∷ n# 2 ∷ n# 2 ∷ [])
 
 -- one place: a stamp with two drafts gets 8, with one it is granted
 abbrev pub one_place : Case
 one_place = runs 1
     (call.Edit 1 ∷ call.Write 1 0 (wide 1) ∷ call.Write 1 1 (wide 2) ∷ call.Lock 1 ∷ call.Stamp 1 ∷ call.Drop 1 ∷ call.Edit 1 ∷ call.Write 1 0 (wide 1) ∷ call.Lock 1 ∷ call.Stamp 1 ∷ [])
-    (n# 0 ∷ answer.Done ∷ answer.Done ∷ n# 2 ∷ answer.Declined why.Places ∷ answer.Done ∷ n# 0 ∷ answer.Done ∷ n# 1 ∷ n# 1 ∷ [])
+    (n# 0 ∷ Ok answer.Done ∷ Ok answer.Done ∷ n# 2 ∷ Err why.Places ∷ Ok answer.Done ∷ n# 0 ∷ Ok answer.Done ∷ n# 1 ∷ n# 1 ∷ [])
 
 -- versions 1 and 2 and an open proof at 1: collect gets 12, and after its end it answers 1
 abbrev pub needed : Case
 needed = runs 8
     (call.Edit 1 ∷ call.Write 1 0 (wide 1) ∷ call.Lock 1 ∷ call.Stamp 1 ∷ call.Put 1 ∷ call.Settle 1 ∷ call.Proof 0 ∷ call.Edit 1 ∷ call.Write 1 0 (wide 2) ∷ call.Lock 1 ∷ call.Stamp 1 ∷ call.Put 1 ∷ call.Settle 1 ∷ call.Collect 0 ∷ call.End 0 ∷ call.Collect 0 ∷ [])
-    (n# 0 ∷ answer.Done ∷ n# 1 ∷ n# 1 ∷ n# 0 ∷ n# 1 ∷ n# 1 ∷ n# 1 ∷ answer.Done ∷ n# 1 ∷ n# 2 ∷ n# 0 ∷ n# 2 ∷ answer.Declined why.Needed ∷ answer.Done ∷ n# 1 ∷ [])
+    (n# 0 ∷ Ok answer.Done ∷ n# 1 ∷ n# 1 ∷ n# 0 ∷ n# 1 ∷ n# 1 ∷ n# 1 ∷ Ok answer.Done ∷ n# 1 ∷ n# 2 ∷ n# 0 ∷ n# 2 ∷ Err why.Needed ∷ Ok answer.Done ∷ n# 1 ∷ [])
 
 -- a proof that is open while an edit is put reads the old card, one begun after the settling the new
 abbrev pub two_moments : Case
 two_moments = runs 8
     (call.Edit 1 ∷ call.Write 1 0 (wide 620) ∷ call.Lock 1 ∷ call.Stamp 1 ∷ call.Proof 0 ∷ call.Put 1 ∷ call.Settle 1 ∷ call.Read 0 0 ∷ call.Proof 2 ∷ call.Read 2 0 ∷ call.Collect 0 ∷ [])
-    (n# 0 ∷ answer.Done ∷ n# 1 ∷ n# 1 ∷ n# 0 ∷ n# 0 ∷ n# 1 ∷ answer.Card blank_card ∷ n# 1 ∷ answer.Card (wide 620) ∷ answer.Declined why.Needed ∷ [])
+    (n# 0 ∷ Ok answer.Done ∷ n# 1 ∷ n# 1 ∷ n# 0 ∷ n# 0 ∷ n# 1 ∷ Ok (answer.Card blank_card) ∷ n# 1 ∷ Ok (answer.Card (wide 620)) ∷ Err why.Needed ∷ [])
 
 -- an edit of two drafts, 1 before 0: its puts answer 1 and 0, and after the first another seat reads 1 and not yet 0
 abbrev pub in_order : Case
 in_order = runs 8
     (call.Edit 1 ∷ call.Write 1 1 (wide 5) ∷ call.Write 1 0 (wide 7) ∷ call.Lock 1 ∷ call.Stamp 1 ∷ call.Edit 2 ∷ call.Put 1 ∷ call.Read 2 1 ∷ call.Read 2 0 ∷ call.Put 1 ∷ call.Read 2 0 ∷ call.Put 1 ∷ call.Settle 1 ∷ [])
-    (n# 0 ∷ answer.Done ∷ answer.Done ∷ n# 2 ∷ n# 1 ∷ n# 1 ∷ n# 1 ∷ answer.Card (wide 5) ∷ answer.Declined why.Held ∷ n# 0 ∷ answer.Card (wide 7) ∷ answer.Declined why.Stage ∷ n# 1 ∷ [])
+    (n# 0 ∷ Ok answer.Done ∷ Ok answer.Done ∷ n# 2 ∷ n# 1 ∷ n# 1 ∷ n# 1 ∷ Ok (answer.Card (wide 5)) ∷ Err why.Held ∷ n# 0 ∷ Ok (answer.Card (wide 7)) ∷ Err why.Stage ∷ n# 1 ∷ [])
 
 -- while a time is half put, a proof starts before it
 abbrev pub half_put : Case
 half_put = runs 8
     (call.Edit 1 ∷ call.Write 1 0 (wide 1) ∷ call.Write 1 1 (wide 2) ∷ call.Lock 1 ∷ call.Stamp 1 ∷ call.Put 1 ∷ call.Proof 0 ∷ call.Read 0 0 ∷ call.Read 0 1 ∷ [])
-    (n# 0 ∷ answer.Done ∷ answer.Done ∷ n# 2 ∷ n# 1 ∷ n# 1 ∷ n# 0 ∷ answer.Card blank_card ∷ answer.Card blank_card ∷ [])
+    (n# 0 ∷ Ok answer.Done ∷ Ok answer.Done ∷ n# 2 ∷ n# 1 ∷ n# 1 ∷ n# 0 ∷ Ok (answer.Card blank_card) ∷ Ok (answer.Card blank_card) ∷ [])
 
 -- a stamp keeps its locks: until its draft is put, another seat's lock of that entry gets 5
 abbrev pub locks_stay : Case
 locks_stay = runs 8
     (call.Edit 1 ∷ call.Write 1 0 (wide 1) ∷ call.Lock 1 ∷ call.Stamp 1 ∷ call.Edit 2 ∷ call.Write 2 0 (wide 2) ∷ call.Lock 2 ∷ call.Put 1 ∷ call.Lock 2 ∷ [])
-    (n# 0 ∷ answer.Done ∷ n# 1 ∷ n# 1 ∷ n# 1 ∷ answer.Done ∷ answer.Declined why.Held ∷ n# 0 ∷ n# 1 ∷ [])
+    (n# 0 ∷ Ok answer.Done ∷ n# 1 ∷ n# 1 ∷ n# 1 ∷ Ok answer.Done ∷ Err why.Held ∷ n# 0 ∷ n# 1 ∷ [])
 
 -- seat 15 is served, seat 16 gets 1; an edit that is dropped leaves no lock
 abbrev pub last_seat : Case
 last_seat = runs 8
     (call.Edit 16 ∷ call.Edit 15 ∷ call.Write 15 0 (wide 1) ∷ call.Lock 15 ∷ call.Drop 15 ∷ call.Edit 0 ∷ call.Write 0 0 (wide 2) ∷ call.Lock 0 ∷ [])
-    (answer.Declined why.Seat ∷ n# 0 ∷ answer.Done ∷ n# 1 ∷ answer.Done ∷ n# 0 ∷ answer.Done ∷ n# 1 ∷ [])
+    (Err why.Seat ∷ n# 0 ∷ Ok answer.Done ∷ n# 1 ∷ Ok answer.Done ∷ n# 0 ∷ Ok answer.Done ∷ n# 1 ∷ [])
 
 -- the bytes are 00; 05 02 6C FF F4; 20 FF D8; 40 and 01 02, which are declined
 abbrev pub worked : List Case

@@ -5,25 +5,20 @@ ghost use Rattle.rules.specs.Words.{answer_told};
 use cards::card::Card;
 use cards::refusal::Refusal;
 
-// A call is granted, with a number, a card or nothing more, or declined.
+// What a call that is granted gives: a number, a card or nothing more.
 #[derive(Clone, Copy, PartialEq, Eq, Debug)]
 pub enum Answer {
-    Number { value: u32 },
-    Card { card: Card },
+    Number(u32),
+    Card(Card),
     Done,
-    Declined { why: Refusal },
 }
 
-impl Answer {
-    // 0 where the call is granted, else the refusal's number.
-    pub fn number(self) -> u8
-        ensures { result ≡ (answer_told self).number }
-    {
-        match self {
-            Answer::Number { value: _ } => 0,
-            Answer::Card { card: _ } => 0,
-            Answer::Done => 0,
-            Answer::Declined { why } => why.number(),
-        }
+// 0 where the call is granted, else the refusal's number.
+pub fn number(answer: Result<Answer, Refusal>) -> u8
+    ensures { result ≡ (answer_told answer).number }
+{
+    match answer {
+        Ok(_) => 0,
+        Err(why) => why.number(),
     }
 }
