@@ -1,3 +1,4 @@
 pub mod Arrivals
+pub mod Sound
 pub mod View
 pub mod Laws

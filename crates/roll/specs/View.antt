@@ -1,5 +1,5 @@
 -- What a roll means.
-use Rattle.std.specs.Prelude.{ℕ, List, take, Some, None, vec_items, vec_len, Option}
+use Rattle.std.specs.Prelude.{ℕ, List, take, vec_items, vec_len}
 use Rattle.std.specs.Global.{Vec}
 use Rattle.cards.specs.Versions.{Kept}
 use Rattle.keepers.specs.Look.{look}
@@ -22,8 +22,3 @@ roll_places s = used_of (vec_len s.places)
 -- the memory that it was given
 abbrev pub roll_memory : Roll → Vec Version
 roll_memory s = s.places
-
--- the time of a version, 0 without one
-abbrev pub time_or_zero : Option Version → ℕ
-time_or_zero None = 0
-time_or_zero (Some v) = v.time
