@@ -1,18 +1,18 @@
 -- A roll that is new, and a version that arrives.
-use Rattle.std.proofs.Common.{◌≡◌, ℕ, ◌+◌, ◌^◌, ◌<◌, List, [], ◌∷◌, ◌++◌, length, get_or, take, set, is_some, Some, None, sym, refl, ap, ◌∙◌, arith}
+use Rattle.std.proofs.Common.{◌≡◌, ℕ, ◌+◌, ◌^◌, ◌<◌, List, [], ◌∷◌, ◌++◌, length, get_or, take, set, is_some, None, sym, refl, ap, arith}
 use Rattle.std.specs.List.{All}
 use Rattle.std.proofs.lemmas.List.Elements.{All-from_get_or, All-push}
 use Rattle.std.proofs.lemmas.List.Quantifiers.{all_pairs_push}
 use Rattle.std.proofs.lemmas.List.{length-set, take_more_set}
 use Rattle.cards.specs.Versions.{with_card, newest_time, room}
 use Rattle.keepers.specs.Kept.{add_refusal, added}
-use Rattle.keepers.specs.Look.{no_version, holds, or_else, look}
+use Rattle.keepers.specs.Look.{no_version}
 use Rattle.keepers.specs.Memory.{most_places}
 use Rattle.keepers.specs.declared.version.Version.{Version}
 use Rattle.cards.proofs.Counts.{same_set, with_here, with_other, held_more, held_none}
 use Rattle.cards.proofs.Newest.{below_bounds, taken}
 use Rattle.keepers.proofs.Looks.{look_append, or_else_none, holds_here, holds_not}
-use Rattle.roll.specs.Arrivals.{Proper, Rising, Arrived, Rolled}
+use Rattle.roll.specs.Arrivals.{Proper, Rising, kept_in, Arrived, Rolled}
 use Rattle.roll.specs.Laws.{free_at}
 use Rattle.roll.proofs.Meanings.{kept_at}
 
@@ -26,32 +26,31 @@ rolled_none xs = record {
 }
 
 -- the version v comes after all of vs, and later than the newest of its entry
-module _ (vs : List Version) (a : Arrived vs) (v : Version) (proper : Proper v) (late : newest_time (look (λ w. w) vs) v.entry < v.time) where
+module _ (vs : List Version) (a : Arrived vs) (v : Version) (proper : Proper v) (late : newest_time (kept_in vs) v.entry < v.time) where
   before : All (λ w. Rising w v) vs
   before =
       All-from_get_or (λ w. Rising w v) vs no_version (λ p l same.
-      let bound = below_bounds (look (λ w. w) vs v.entry) (2 ^ 32) (get_or vs p no_version).time (a.each p no_version l).2 (rw same at (ap is_some (kept_at vs a p l))) in omega arith)
+      let bound = below_bounds (kept_in vs v.entry) (2 ^ 32) (get_or vs p no_version).time (a.each p no_version l).2 (rw same at (ap is_some (kept_at vs a p l))) in omega arith)
 
   arrived_more : Arrived (vs ++ v ∷ [])
   arrived_more = record { each = All-push Proper vs v a.each proper; rising = all_pairs_push Rising vs v a.rising before }
 
-  fresh : look (λ w. w) vs v.entry v.time ≡ None
+  fresh : kept_in vs v.entry v.time ≡ None
   fresh = free_at vs v.entry v.time (λ p l x y. omega (arith, before p no_version l x))
 
-  look_more : look (λ w. w) (vs ++ v ∷ []) ≡ with_card (look (λ w. w) vs) v.entry v.time v.card
+  look_more : kept_in (vs ++ v ∷ []) ≡ with_card (kept_in vs) v.entry v.time v.card
   look_more =
-      let m = look (λ w. w) vs in
-      let arrives : or_else (m v.entry v.time) (or_else (holds v v.entry v.time) None) ≡ Some v.card = rw (fresh, holds_here v v.entry v.time proper.1 refl refl) in
+      let m = kept_in vs in
       same_set _ _ v.entry v.time
-      (look_append (λ w. w) vs (v ∷ []) v.entry v.time ∙ arrives ∙ sym (with_here m v.entry v.time v.card))
-      (λ e t ne. look_append (λ w. w) vs (v ∷ []) e t ∙ rw (holds_not v e t (λ _ x y. ne (sym x) (sym y))) (or_else_none (m e t) ∙ sym (with_other m v.entry v.time v.card e t ne)))
+      (rw (with_here m v.entry v.time v.card, look_append (λ w. w) vs (v ∷ []) v.entry v.time, fresh, holds_here v v.entry v.time proper.1 refl refl) refl)
+      (λ e t ne. rw (with_other m v.entry v.time v.card e t ne, look_append (λ w. w) vs (v ∷ []) e t, holds_not v e t (λ _ x y. ne (sym x) (sym y))) (or_else_none (m e t)))
 
 -- a roll with a place to spare, where it arrives
-module _ (xs : List Version) (held places : ℕ) (v : Version) (s : Rolled xs held) (can : (held < length xs) × (held < most_places) × (0 < room places (look (λ w. w) (take held xs))) × (v.entry < 1024) × (v.time < 2 ^ 32) × (newest_time (look (λ w. w) (take held xs)) v.entry < v.time)) where
-  pub arrives : Rolled (set xs held v) (held + 1) × (look (λ w. w) (take (held + 1) (set xs held v)) ≡ added (add_refusal places (look (λ w. w) (take held xs)) v) (look (λ w. w) (take held xs)) v)
+module _ (xs : List Version) (held places : ℕ) (v : Version) (s : Rolled xs held) (can : (held < length xs) × (held < most_places) × (0 < room places (kept_in (take held xs))) × (v.entry < 1024) × (v.time < 2 ^ 32) × (newest_time (kept_in (take held xs)) v.entry < v.time)) where
+  pub arrives : Rolled (set xs held v) (held + 1) × (kept_in (take (held + 1) (set xs held v)) ≡ added (add_refusal places (kept_in (take held xs)) v) (kept_in (take held xs)) v)
   arrives =
       let (inside, few, spare, entry, bits, late) = can in
-      let kept = look (λ w. w) (take held xs) in
+      let kept = kept_in (take held xs) in
       let proper : Proper v = (entry, omega arith, bits) in
       let front = take_more_set xs held v inside in
       let looked = look_more (take held xs) s.arrived v proper late in (
@@ -59,7 +58,7 @@ module _ (xs : List Version) (held places : ℕ) (v : Version) (s : Rolled xs he
           within = simp length-set (omega arith);
           few = omega arith;
           arrived = rw front (arrived_more (take held xs) s.arrived v proper late);
-          counted = rw (front, looked) (omega (arith, s.counted, held_more kept v.entry v.time v.card entry bits (fresh (take held xs) s.arrived v proper late)));
+          counted = rw (front, looked) (omega (arith, held_more kept v.entry v.time v.card entry bits (fresh (take held xs) s.arrived v proper late)));
         },
         rw (front, taken places kept v.entry v.time entry spare late) looked,
       )

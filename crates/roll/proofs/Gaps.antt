@@ -1,18 +1,18 @@
 -- A version that is taken out, and the gap that is closed.
-use Rattle.std.proofs.Common.{◌≡◌, ℕ, suc, ◌+◌, ◌-◌, ◌<◌, List, ◌∷◌, ◌++◌, length, get_or, take, drop, Some, None, sym, ap, ◌∙◌, inl, inr, add-one, arith}
+use Rattle.std.proofs.Common.{◌≡◌, ℕ, suc, ◌+◌, ◌-◌, ◌<◌, List, ◌∷◌, ◌++◌, length, get_or, take, drop, Some, None, sym, refl, ap, ◌∙◌, add-one, arith}
 use lib.Seq.{paste}
 use Rattle.std.proofs.lemmas.List.Edits.{length-remove, get_or-remove_below, get_or-remove_above}
 use Rattle.std.proofs.lemmas.List.Quantifiers.{all_pairs_remove}
 use Rattle.std.proofs.lemmas.List.{length-append, length-take-le, with_items_is, set-get_or, set_split, take_at, take-take}
 use Rattle.std.proofs.lemmas.List.Elements.{All-append, All-take, All-drop}
 use Rattle.std.proofs.lemmas.Slice.{between_is}
-use Rattle.std.proofs.lemmas.Bool.{cases_lt}
 use Rattle.std.specs.Vec.{with_items}
 use Rattle.std.specs.List.{remove}
 use Rattle.std.specs.Global.{Vec}
 use Rattle.cards.specs.Versions.{without}
-use Rattle.roll.specs.Arrivals.{Proper, Rising, Arrived, Rolled, Placed, closed}
-use Rattle.keepers.specs.Look.{no_version, or_else, look}
+use Rattle.roll.specs.Arrivals.{Proper, Rising, kept_in, Arrived, Rolled, closed}
+use Rattle.roll.specs.Searches.{Placed}
+use Rattle.keepers.specs.Look.{no_version, or_else}
 use Rattle.keepers.specs.declared.version.Version.{Version}
 use Rattle.cards.proofs.Counts.{same_set, without_here, without_other, held_less}
 use Rattle.keepers.proofs.Looks.{look_append, holds_not}
@@ -32,45 +32,40 @@ module _ (vs : List Version) (a : Arrived vs) (p : ℕ) (l : p < length vs) wher
   arrived_less = record { each = All-append Proper (take p vs) (drop (suc p) vs) (All-take Proper p vs a.each) (All-drop Proper (suc p) vs a.each); rising = all_pairs_remove Rising vs p l a.rising }
 
   -- no other version has its entry and time
-  none_left : look (λ v. v) (remove vs p) gone.entry gone.time ≡ None
+  none_left : kept_in (remove vs p) gone.entry gone.time ≡ None
   none_left =
       free_at (remove vs p) gone.entry gone.time (λ r k x y.
       let n = length-remove vs p l in
-      elim (cases_lt r p) [
-        | inl b ↦ (let is = get_or-remove_below vs p no_version r b l in omega (arith, a.rising r p no_version b l (ap (λ (v : Version). v.entry) (sym is) ∙ x), ap (λ (v : Version). v.time) is))
-        | inr b ↦ (let is = get_or-remove_above vs p no_version r b l in omega (arith, a.rising p (r + 1) no_version (omega arith) (omega arith) (sym x ∙ ap (λ (v : Version). v.entry) is), ap (λ (v : Version). v.time) is))
-      ])
+      grind (arith, a.rising r p no_version, a.rising p (r + 1) no_version, get_or-remove_below vs p no_version r, get_or-remove_above vs p no_version r))
 
-  look_less : look (λ v. v) (remove vs p) ≡ without (look (λ v. v) vs) gone.entry gone.time
+  look_less : kept_in (remove vs p) ≡ without (kept_in vs) gone.entry gone.time
   look_less =
-      same_set _ _ gone.entry gone.time (none_left ∙ sym (without_here (look (λ v. v) vs) gone.entry gone.time))
-      (λ e t ne. look_append (λ v. v) (take p vs) (drop (suc p) vs) e t ∙ sym (before e t ne) ∙ sym (without_other (look (λ v. v) vs) gone.entry gone.time e t ne))
+      let m = kept_in vs in
+      same_set _ _ gone.entry gone.time (none_left ∙ sym (without_here m gone.entry gone.time))
+      (λ e t ne. rw (without_other m gone.entry gone.time e t ne, look_append (λ v. v) (take p vs) (drop (suc p) vs) e t) (sym (ap (λ (ws : List Version). kept_in ws e t) parted ∙ others e t ne)))
     where
       parted : vs ≡ take p vs ++ gone ∷ drop (suc p) vs
       parted = sym (set-get_or vs p no_version) ∙ set_split vs p gone l
 
-      before : (e t : ℕ) → (e ≡ gone.entry → t ≡ gone.time → ⊥) → look (λ v. v) vs e t ≡ or_else (look (λ v. v) (take p vs) e t) (look (λ v. v) (drop (suc p) vs) e t)
-      before e t ne =
-          ap (λ (ws : List Version). look (λ v. v) ws e t) parted
-          ∙ look_append (λ v. v) (take p vs) (gone ∷ drop (suc p) vs) e t
-          ∙ ap (λ o. or_else (look (λ v. v) (take p vs) e t) (or_else o (look (λ v. v) (drop (suc p) vs) e t))) (holds_not gone e t (λ _ x y. ne (sym x) (sym y)))
+      others : (e t : ℕ) → (e ≡ gone.entry → t ≡ gone.time → ⊥) → kept_in (take p vs ++ gone ∷ drop (suc p) vs) e t ≡ or_else (kept_in (take p vs) e t) (kept_in (drop (suc p) vs) e t)
+      others e t ne = rw (look_append (λ v. v) (take p vs) (gone ∷ drop (suc p) vs) e t, holds_not gone e t (λ _ x y. ne (sym x) (sym y))) refl
 
 -- memory whose items were lent as us, and came back as ws with the gap closed, where the version of an entry at a time stood
 module _ (memory : Vec Version) (held e t p : ℕ) (s : Rolled memory.items held) (st : Placed e t (take held memory.items) (Some p)) (us ws : List Version) (lent : us ≡ memory.items) (back : ws ≡ closed us p held) (len : length ws ≡ memory.len) where
-  pub rolled_less : Rolled (with_items memory ws).items (held - 1) × (look (λ v. v) (take (held - 1) (with_items memory ws).items) ≡ without (look (λ v. v) (take held memory.items)) e t)
+  pub rolled_less : Rolled (with_items memory ws).items (held - 1) × (kept_in (take (held - 1) (with_items memory ws).items) ≡ without (kept_in (take held memory.items)) e t)
   rolled_less =
       let vs = take held memory.items in
       let is : (with_items memory ws).items ≡ closed memory.items p held = with_items_is memory ws len ∙ back ∙ ap (λ (xs : List Version). closed xs p held) lent in
       let proper = s.arrived.each p no_version st.0 in
       let count : length (remove vs p) ≡ held - 1 = omega (arith, length-remove vs p st.0, length-take-le held memory.items s.within) in
       let front = take_at (remove vs p) (drop (held - 1) memory.items) (held - 1) count in
-      let looked : look (λ v. v) (remove vs p) ≡ without (look (λ v. v) vs) e t = rw (st.1, st.2) at (look_less vs s.arrived p st.0) in
+      let looked : kept_in (remove vs p) ≡ without (kept_in vs) e t = rw (st.1, st.2) at (look_less vs s.arrived p st.0) in
       rw is (
         record {
-          within = omega (arith, count, length-append (remove vs p) (drop (held - 1) memory.items));
-          few = omega (arith, s.few);
+          within = omega (arith, length-append (remove vs p) (drop (held - 1) memory.items));
+          few = omega arith;
           arrived = rw front (arrived_less vs s.arrived p st.0);
-          counted = rw (front, looked) (omega (arith, s.counted, held_less (look (λ v. v) vs) e t _ (rw st.1 at proper.0) (rw st.2 at proper.2) st.3));
+          counted = rw (front, looked) (omega (arith, held_less (kept_in vs) e t _ (rw st.1 at proper.0) (rw st.2 at proper.2) st.3));
         },
         rw front looked,
       )

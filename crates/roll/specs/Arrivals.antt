@@ -1,8 +1,8 @@
 -- Versions in their order of arrival, in the front of a list of places.
-use Rattle.std.specs.Prelude.{◌≡◌, ℕ, ◌-◌, ◌^◌, ◌<◌, ◌≤◌, List, ◌++◌, length, take, drop, Some, None, Option, slice_index_or}
+use Rattle.std.specs.Prelude.{◌≡◌, ℕ, ◌-◌, ◌^◌, ◌<◌, ◌≤◌, List, ◌++◌, length, take, drop}
 use Rattle.std.specs.List.{All, AllPairs, remove}
-use Rattle.cards.specs.Versions.{held_in}
-use Rattle.keepers.specs.Look.{no_version, look}
+use Rattle.cards.specs.Versions.{Kept, held_in}
+use Rattle.keepers.specs.Look.{look}
 use Rattle.keepers.specs.Memory.{most_places}
 use Rattle.keepers.specs.declared.version.Version.{Version}
 
@@ -14,6 +14,10 @@ Proper v = (v.entry < 1024) × (0 < v.time) × (v.time < 2 ^ 32)
 abbrev pub Rising : Version → Version → Type 0
 Rising v w = v.entry ≡ w.entry → v.time < w.time
 
+-- what the versions in a list mean together
+abbrev pub kept_in : List Version → Kept
+kept_in vs = look (λ v. v) vs
+
 -- every version is proper, and of two of one entry the one that arrived first has the earlier time
 pub record Arrived (vs : List Version) : Type 0 where
   pub each : All Proper vs
@@ -24,17 +28,7 @@ pub record Rolled (xs : List Version) (held : ℕ) : Type 0 where
   pub within : held ≤ length xs
   pub few : held ≤ most_places
   pub arrived : Arrived (take held xs)
-  pub counted : held ≡ held_in (look (λ v. v) (take held xs))
-
--- r is the place of the version of the entry e at the time t; there is none where r is None
-abbrev pub Placed : ℕ → ℕ → List Version → Option ℕ → Type 0
-Placed e t vs None = look (λ v. v) vs e t ≡ None
-Placed e t vs (Some p) = (p < length vs) × ((slice_index_or vs p no_version).entry ≡ e) × ((slice_index_or vs p no_version).time ≡ t) × (look (λ v. v) vs e t ≡ Some (slice_index_or vs p no_version).card)
-
--- r is the time of the first version of the entry e that is later than u, or no version is
-abbrev pub First : ℕ → ℕ → List Version → Option ℕ → Type 0
-First e u vs None = (k : ℕ) (d : Version) → k < length vs → ((slice_index_or vs k d).entry ≡ e) × (u < (slice_index_or vs k d).time) → ⊥
-First e u vs (Some t) = (i : ℕ) × (i < length vs) × ((d : Version) → ((slice_index_or vs i d).entry ≡ e) × (u < (slice_index_or vs i d).time) × ((slice_index_or vs i d).time ≡ t)) × ((k : ℕ) (d : Version) → k < i → ((slice_index_or vs k d).entry ≡ e) × (u < (slice_index_or vs k d).time) → ⊥)
+  pub counted : held ≡ held_in (kept_in (take held xs))
 
 -- the first `held` items without the one at a place, then the last of them and what follows as they were
 abbrev pub closed : {X : Type 0} → List X → ℕ → ℕ → List X

@@ -3,14 +3,15 @@
 use Rattle.std.specs.Prelude.{◌≡◌, ℕ, ◌^◌, ◌<◌, ◌≤◌, List, length, None, ◌≢◌, slice_index_or, refl}
 use Rattle.std.proofs.Common.{arith}
 use Rattle.cards.specs.Versions.{held_in}
-use Rattle.keepers.specs.Look.{no_version, look}
+use Rattle.keepers.specs.Look.{no_version}
 use Rattle.keepers.specs.declared.version.Version.{Version}
 use Rattle.keepers.proofs.Looks.{look_none, filled_in}
+use Rattle.roll.specs.Arrivals.{kept_in}
 use Rattle.roll.specs.View.{roll_front, roll_kept, roll_places}
 use Rattle.roll.specs.declared.keeper.Roll.{Roll}
 
 -- nothing is held for an entry at a time that none of its places has
-pub free_at : (vs : List Version) (e t : ℕ) → ((p : ℕ) → p < length vs → (slice_index_or vs p no_version).entry ≡ e → (slice_index_or vs p no_version).time ≢ t) → look (λ v. v) vs e t ≡ None
+pub free_at : (vs : List Version) (e t : ℕ) → ((p : ℕ) → p < length vs → (slice_index_or vs p no_version).entry ≡ e → (slice_index_or vs p no_version).time ≢ t) → kept_in vs e t ≡ None
 free_at vs e t h = look_none (λ v. v) no_version vs e t (λ p o y. h p (filled_in (λ v. v) no_version vs p refl o.0) o.1 y)
 
 -- ---- the laws

@@ -1,7 +1,7 @@
 // What a roll does as a keeper.
 ghost use Rattle.std.specs.Prelude.{◌≡◌};
 ghost use Rattle.cards.specs.Versions.{newest_time};
-ghost use Rattle.roll.specs.Arrivals.{Placed, First};
+ghost use Rattle.roll.specs.Searches.{Placed, First};
 ghost use Rattle.roll.specs.View.{roll_front, roll_kept, roll_places};
 ghost use Rattle.roll.specs.Laws.{entries_law, starts_law, times_law, fits_law};
 
@@ -29,7 +29,7 @@ impl Roll {
     fn front(&self) -> &[Version]
         ensures { result.now ≡ roll_front self.now }
     {
-        &self.places[0..self.held]
+        &self.places[..self.held]
     }
 
     // The place of an entry's version at a time.
