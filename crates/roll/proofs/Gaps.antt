@@ -1,9 +1,10 @@
 -- A version that is taken out, and the gap that is closed.
 use Rattle.std.proofs.Common.{◌≡◌, ℕ, suc, ◌+◌, ◌-◌, ◌<◌, List, ◌∷◌, ◌++◌, length, get_or, take, drop, Some, None, sym, refl, ap, ◌∙◌, add-one, arith}
 use lib.Seq.{paste}
+use Rattle.std.proofs.Math.Seq.{split_at}
 use Rattle.std.proofs.lemmas.List.Edits.{length-remove, get_or-remove_below, get_or-remove_above}
 use Rattle.std.proofs.lemmas.List.Quantifiers.{all_pairs_remove}
-use Rattle.std.proofs.lemmas.List.{length-append, length-take-le, with_items_is, set-get_or, set_split, take_at, take-take}
+use Rattle.std.proofs.lemmas.List.{length-append, length-take-le, with_items_is, take_at, take-take}
 use Rattle.std.proofs.lemmas.List.Elements.{All-append, All-take, All-drop}
 use Rattle.std.proofs.lemmas.Slice.{between_is}
 use Rattle.std.specs.Vec.{with_items}
@@ -42,11 +43,8 @@ module _ (vs : List Version) (a : Arrived vs) (p : ℕ) (l : p < length vs) wher
   look_less =
       let m = kept_in vs in
       same_set _ _ gone.entry gone.time (none_left ∙ sym (without_here m gone.entry gone.time))
-      (λ e t ne. rw (without_other m gone.entry gone.time e t ne, look_append (λ v. v) (take p vs) (drop (suc p) vs) e t) (sym (ap (λ (ws : List Version). kept_in ws e t) parted ∙ others e t ne)))
+      (λ e t ne. rw (without_other m gone.entry gone.time e t ne, look_append (λ v. v) (take p vs) (drop (suc p) vs) e t) (sym (ap (λ (ws : List Version). kept_in ws e t) (split_at vs p no_version l) ∙ others e t ne)))
     where
-      parted : vs ≡ take p vs ++ gone ∷ drop (suc p) vs
-      parted = sym (set-get_or vs p no_version) ∙ set_split vs p gone l
-
       others : (e t : ℕ) → (e ≡ gone.entry → t ≡ gone.time → ⊥) → kept_in (take p vs ++ gone ∷ drop (suc p) vs) e t ≡ or_else (kept_in (take p vs) e t) (kept_in (drop (suc p) vs) e t)
       others e t ne = rw (look_append (λ v. v) (take p vs) (gone ∷ drop (suc p) vs) e t, holds_not gone e t (λ _ x y. ne (sym x) (sym y))) refl
 
