@@ -21,9 +21,7 @@ use Rattle.roll.specs.Laws.{free_at}
 
 -- a copy of what follows is what closes a gap
 pub closed_is : {X : Type 0} (xs : List X) (p held : ℕ) → p < held → paste xs p (drop (p + 1) xs) (held - (p + 1)) ≡ closed xs p held
-closed_is xs p held l =
-    let n : p + (held - (p + 1)) ≡ held - 1 = omega arith in
-    rw (n, add-one, take-take p held xs (omega arith), between_is xs (suc p) held)
+closed_is xs p held l = let n : p + (held - (p + 1)) ≡ held - 1 = omega arith in rw (n, add-one, take-take p held xs (omega arith), between_is xs (suc p) held)
 
 module _ (vs : List Version) (a : Arrived vs) (p : ℕ) (l : p < length vs) where
   abbrev gone : Version

@@ -3,7 +3,7 @@ use Rattle.std.specs.Prelude.{◌≡◌, ℕ, ◌-◌, ◌^◌, ◌<◌, ◌≤�
 use Rattle.std.specs.Bool.{then_some}
 use Rattle.std.specs.Option.{option_map, option_map_or}
 use Rattle.std.proofs.Common.{sym, ap, inl, inr, arith}
-use Rattle.std.proofs.lemmas.Bool.{cases_eq, cases_lt, eq-eqb, ne_eqb}
+use Rattle.std.proofs.lemmas.Bool.{cases_eq, eq-eqb, ne_eqb}
 use Rattle.cards.specs.Versions.{Kept, newest_time}
 use Rattle.roll.specs.Arrivals.{kept_in, Arrived}
 use Rattle.roll.specs.Searches.{Placed, First}
@@ -39,8 +39,8 @@ module _ (vs : List Version) (a : Arrived vs) where
   placed_at e t (Some i) r last is =
       let y = last.1 no_version in
       elim (cases_eq (item i).time t) [
-        | inl q ↦ (let b = eq-eqb (item i).time t q in rw (is, b) (last.0, y.0, q, rw (y.0, q) at (kept_at i last.0)))
-        | inr ne ↦ (let b = ne_eqb (item i).time t ne in rw (is, b) ((newest_last e t (Some i) last).3 t (omega (arith, ne)) (omega arith)))
+        | inl q ↦ rw (is, eq-eqb _ t q) (last.0, y.0, q, rw (y.0, q) at (kept_at i last.0))
+        | inr ne ↦ rw (is, ne_eqb _ t ne) ((newest_last e t (Some i) last).3 t (omega (arith, ne)) (omega arith))
       ]
 
   -- the first later version is the next one
@@ -52,5 +52,5 @@ module _ (vs : List Version) (a : Arrived vs) where
 
 -- what is found without a limit of time tells the newest time
 pub newest_found : (m : Kept) (e : ℕ) (r : Option Version) → ((u : ℕ) → 2 ^ 32 ≤ u → m e u ≡ None) → Newest m e (2 ^ 32 - 1) r → option_map_or (λ v. v.time) r 0 ≡ newest_time m e
-newest_found m e None past none = sym (newest_none m e (λ u. elim (cases_lt u (2 ^ 32)) [ inl l ↦ none u (omega arith) | inr l ↦ past u l ]))
-newest_found m e (Some v) past (y, hi, some, none) = sym (newest_is m e v.time (omega arith) (ap is_some some) (λ u l. elim (cases_lt u (2 ^ 32)) [ inl k ↦ none u l (omega arith) | inr k ↦ past u k ]))
+newest_found m e None past none = sym (newest_none m e (λ u. grind (arith, none u, past u)))
+newest_found m e (Some v) past (y, hi, some, none) = sym (newest_is m e v.time (omega arith) (ap is_some some) (λ u l. grind (arith, none u, past u)))
