@@ -13,7 +13,7 @@ use Rattle.cards.proofs.Counts.{same_set, with_here, with_other, held_more, held
 use Rattle.cards.proofs.Newest.{below_bounds, taken}
 use Rattle.keepers.proofs.Looks.{look_append, or_else_none, holds_here, holds_not}
 use Rattle.roll.specs.Arrivals.{Proper, Rising, kept_in, Arrived, Rolled}
-use Rattle.roll.specs.Laws.{free_at}
+use Rattle.roll.specs.Laws.{none_at}
 use Rattle.roll.proofs.Meanings.{kept_at}
 
 -- a roll without a version
@@ -36,7 +36,7 @@ module _ (vs : List Version) (a : Arrived vs) (v : Version) (proper : Proper v) 
   arrived_more = record { each = All-push Proper vs v a.each proper; rising = all_pairs_push Rising vs v a.rising before }
 
   fresh : kept_in vs v.entry v.time ≡ None
-  fresh = free_at vs v.entry v.time (λ p l x y. omega (arith, before p no_version l x))
+  fresh = none_at vs v.entry v.time (λ p l x y. omega (arith, before p no_version l x))
 
   look_more : kept_in (vs ++ v ∷ []) ≡ with_card (kept_in vs) v.entry v.time v.card
   look_more =

@@ -17,7 +17,7 @@ use Rattle.keepers.specs.Look.{no_version, or_else}
 use Rattle.keepers.specs.declared.version.Version.{Version}
 use Rattle.cards.proofs.Counts.{same_set, without_here, without_other, held_less}
 use Rattle.keepers.proofs.Looks.{look_append, holds_not}
-use Rattle.roll.specs.Laws.{free_at}
+use Rattle.roll.specs.Laws.{none_at}
 
 -- a copy of what follows is what closes a gap
 pub closed_is : {X : Type 0} (xs : List X) (p held : ℕ) → p < held → paste xs p (drop (p + 1) xs) (held - (p + 1)) ≡ closed xs p held
@@ -33,7 +33,7 @@ module _ (vs : List Version) (a : Arrived vs) (p : ℕ) (l : p < length vs) wher
   -- no other version has its entry and time
   none_left : kept_in (remove vs p) gone.entry gone.time ≡ None
   none_left =
-      free_at (remove vs p) gone.entry gone.time (λ r k x y.
+      none_at (remove vs p) gone.entry gone.time (λ r k x y.
       let n = length-remove vs p l in
       grind (arith, a.rising r p no_version, a.rising p (r + 1) no_version, get_or-remove_below vs p no_version r, get_or-remove_above vs p no_version r))
 

@@ -10,7 +10,7 @@ use Rattle.roll.specs.Searches.{Placed, First}
 use Rattle.keepers.specs.Kept.{Newest, Follows}
 use Rattle.keepers.specs.Lists.{Last}
 use Rattle.keepers.specs.Look.{no_version}
-use Rattle.roll.specs.Laws.{free_at}
+use Rattle.roll.specs.Laws.{none_at}
 use Rattle.keepers.specs.declared.version.Version.{Version}
 use Rattle.cards.proofs.Newest.{newest_none, newest_is}
 use Rattle.keepers.proofs.Looks.{look_some, filled_in}
@@ -28,10 +28,10 @@ module _ (vs : List Version) (a : Arrived vs) where
 
   -- the last match is the newest version
   pub newest_last : (e u : ℕ) (o : Option ℕ) → Last (λ v. (v.entry ≡ e) × (v.time ≤ u)) vs o → Newest (kept_in vs) e u (option_map item o)
-  newest_last e u None none = λ t hi. free_at vs e t (λ p l x y. none p no_version l (x, omega arith))
+  newest_last e u None none = λ t hi. none_at vs e t (λ p l x y. none p no_version l (x, omega arith))
   newest_last e u (Some i) (inn, is, rest) =
       let y = is no_version in
-      (y.0, y.1, rw y.0 at (kept_at i inn), λ t lo hi. free_at vs e t (λ p l x z. grind (arith, a.rising p i no_version, rest p no_version)))
+      (y.0, y.1, rw y.0 at (kept_at i inn), λ t lo hi. none_at vs e t (λ p l x z. grind (arith, a.rising p i no_version, rest p no_version)))
 
   -- a version at a time is the newest up to that time
   pub placed_at : (e t : ℕ) (o r : Option ℕ) → Last (λ v. (v.entry ≡ e) × (v.time ≤ t)) vs o → MatchOption o (r ≡ None) (λ i. r ≡ then_some ((item i).time == t) i) → Placed e t vs r
@@ -45,10 +45,10 @@ module _ (vs : List Version) (a : Arrived vs) where
 
   -- the first later version is the next one
   pub next_first : (e u : ℕ) (r : Option ℕ) → First e u vs r → Follows (kept_in vs) e u r
-  next_first e u None none = λ t lo. free_at vs e t (λ p l x y. none p no_version l (x, omega arith))
+  next_first e u None none = λ t lo. none_at vs e t (λ p l x y. none p no_version l (x, omega arith))
   next_first e u (Some t) (i, inn, is, before) =
       let y = is no_version in
-      (omega arith, rw (y.0.0, y.1) at (ap is_some (kept_at i inn)), λ s lo hi. free_at vs e s (λ p l x z. grind (arith, a.rising i p no_version, before p no_version)))
+      (omega arith, rw (y.0.0, y.1) at (ap is_some (kept_at i inn)), λ s lo hi. none_at vs e s (λ p l x z. grind (arith, a.rising i p no_version, before p no_version)))
 
 -- what is found without a limit of time tells the newest time
 pub newest_found : (m : Kept) (e : ℕ) (r : Option Version) → ((u : ℕ) → 2 ^ 32 ≤ u → m e u ≡ None) → Newest m e (2 ^ 32 - 1) r → option_map_or (λ v. v.time) r 0 ≡ newest_time m e
