@@ -1,6 +1,7 @@
 -- What versions that stand in a list mean together.
-use Rattle.std.proofs.Common.{◌≡◌, ℕ, zero, suc, ◌<◌, Bool, true, false, cond, eqb, List, [], ◌∷◌, ◌++◌, length, get_or, Some, None, Option, sym, refl, ap, ◌∙◌, arith}
-use Rattle.std.proofs.lemmas.Bool.{eq-eqb, eqb-true}
+use Rattle.std.proofs.Common.{◌≡◌, ℕ, zero, suc, ◌<◌, List, [], ◌∷◌, ◌++◌, length, get_or, Some, None, Option, refl, arith}
+use Rattle.std.proofs.lemmas.List.{get_or_past}
+use Rattle.std.proofs.lemmas.Bool.Decides.{nat_tests}
 use Rattle.cards.specs.declared.card.Card.{Card}
 use Rattle.keepers.specs.Look.{holds, or_else, look, Of}
 use Rattle.keepers.specs.declared.version.Version.{Version}
@@ -8,57 +9,40 @@ use Rattle.keepers.specs.declared.version.Version.{Version}
 -- a version is held at its entry and time, and nowhere else
 pub holds_here : (v : Version) (e t : ℕ) → 0 < v.time → v.entry ≡ e → v.time ≡ t → holds v e t ≡ Some v.card
 holds_here v e zero l a b = absurd (omega arith)
-holds_here v e (suc t) l a b = let x = eq-eqb e v.entry (sym a) in let y = eq-eqb (suc t) v.time (sym b) in rw (x, y)
+holds_here v e (suc t) l a b = grind (arith, nat_tests)
 
 pub holds_not : (v : Version) (e t : ℕ) → (0 < v.time → v.entry ≡ e → v.time ≡ t → ⊥) → holds v e t ≡ None
 holds_not v e zero ne = refl
-holds_not v e (suc t) ne = both (eqb e v.entry) (eqb (suc t) v.time) (λ a b. let x = eqb-true e v.entry a in let y = eqb-true (suc t) v.time b in ne (omega arith) (sym x) (sym y))
-  where
-    both : (a b : Bool) → (a ≡ true → b ≡ true → ⊥) → cond a (cond b (Some v.card) None) None ≡ None
-    both true true h = absurd (h refl refl)
-    both true false h = refl
-    both false b h = refl
+holds_not v e (suc t) ne = grind (arith, nat_tests)
 
 module _ {X : Type 0} (f : X → Version) (d : X) where
   -- no item has it
   pub look_none : (xs : List X) (e t : ℕ) → ((r : ℕ) → Of f d xs e r → (f (get_or xs r d)).time ≡ t → ⊥) → look f xs e t ≡ None
   look_none [] e t h = refl
-  look_none (x ∷ xs) e t h =
-      let a = holds_not (f x) e t (λ l p q. h 0 (l, p) q) in
-      let b = look_none xs e t (λ r o q. h (suc r) o q) in
-      rw (a, b)
+  look_none (x ∷ xs) e t h = rw (holds_not (f x) e t (λ l p q. h 0 (l, p) q), look_none xs e t (λ r o q. h (suc r) o q))
 
   -- one item has it
   pub look_some : (xs : List X) (e t r : ℕ) → ((q : ℕ) → Of f d xs e q → (f (get_or xs q d)).time ≡ t → q ≡ r) → Of f d xs e r → (f (get_or xs r d)).time ≡ t → (f d).time ≡ 0 → look f xs e t ≡ Some (f (get_or xs r d)).card
   look_some [] e t r once o q z = absurd (omega (arith, o.0))
-  look_some (x ∷ xs) e t zero once o q z = let a = holds_here (f x) e t o.0 o.1 q in rw a
+  look_some (x ∷ xs) e t zero once o q z = rw (holds_here (f x) e t o.0 o.1 q)
   look_some (x ∷ xs) e t (suc r) once o q z =
-      let a = holds_not (f x) e t (λ l p y. let k = once 0 (l, p) y in omega arith) in
-      let b = look_some xs e t r (λ k w y. let j = once (suc k) w y in omega arith) o q z in
-      rw (a, b)
+      rw (holds_not (f x) e t (λ l p y. omega (arith, once 0 (l, p) y)), look_some xs e t r (λ k w y. omega (arith, once (suc k) w y)) o q z)
 
   -- two lists that hold the same place by place
   pub look_like : (xs ys : List X) (e t : ℕ) → length ys ≡ length xs → ((r : ℕ) → holds (f (get_or ys r d)) e t ≡ holds (f (get_or xs r d)) e t) → look f ys e t ≡ look f xs e t
   look_like [] [] e t l h = refl
   look_like [] (y ∷ ys) e t l h = absurd (omega arith)
   look_like (x ∷ xs) [] e t l h = absurd (omega arith)
-  look_like (x ∷ xs) (y ∷ ys) e t l h = let a = h 0 in let b = look_like xs ys e t (omega arith) (λ r. h (suc r)) in rw (a, b)
+  look_like (x ∷ xs) (y ∷ ys) e t l h = rw (h 0, look_like xs ys e t (omega arith) (λ r. h (suc r)))
 
   -- a place that has a version is in the list
   pub filled_in : (xs : List X) (p : ℕ) → (f d).time ≡ 0 → 0 < (f (get_or xs p d)).time → p < length xs
-  filled_in [] p z h = absurd (omega arith)
-  filled_in (x ∷ xs) zero z h = omega arith
-  filled_in (x ∷ xs) (suc p) z h = let r = filled_in xs p z h in omega arith
+  filled_in xs p z h = grind (arith, get_or_past xs p d)
 
 pub or_else_none : (o : Option Card) → or_else o None ≡ o
-or_else_none None = refl
-or_else_none (Some c) = refl
+or_else_none o = grind arith
 
 -- one list after another
 pub look_append : {X : Type 0} (f : X → Version) (xs ys : List X) (e t : ℕ) → look f (xs ++ ys) e t ≡ or_else (look f xs e t) (look f ys e t)
 look_append f [] ys e t = refl
-look_append f (x ∷ xs) ys e t = ap (or_else (holds (f x) e t)) (look_append f xs ys e t) ∙ joined (holds (f x) e t)
-  where
-    joined : (o : Option Card) → or_else o (or_else (look f xs e t) (look f ys e t)) ≡ or_else (or_else o (look f xs e t)) (look f ys e t)
-    joined None = refl
-    joined (Some c) = refl
+look_append f (x ∷ xs) ys e t = grind (arith, look_append f xs ys e t)

@@ -1,86 +1,56 @@
 -- What versions in their order of arrival mean together.
-use Rattle.std.specs.Prelude.{◌≡◌, ℕ, ◌-◌, ◌^◌, ◌<◌, ◌≤◌, List, length, is_some, Some, None, Option, ◌≢◌, slice_index_or, refl}
-use Rattle.std.proofs.Common.{sym, ap, ◌∙◌, inl, inr, arith}
-use Rattle.std.proofs.lemmas.Bool.{cases_order, cases_lt}
+use Rattle.std.specs.Prelude.{◌≡◌, ℕ, ◌-◌, ◌^◌, ◌<◌, ◌≤◌, List, length, is_some, Some, None, Option, MatchOption, ◌==◌, slice_index_or, refl}
+use Rattle.std.specs.Bool.{then_some}
+use Rattle.std.specs.Option.{option_map, option_map_or}
+use Rattle.std.proofs.Common.{sym, ap, inl, inr, arith}
+use Rattle.std.proofs.lemmas.Bool.{cases_eq, eq-eqb, ne_eqb}
 use Rattle.cards.specs.Versions.{Kept, newest_time}
-use Rattle.roll.specs.Arrivals.{Arrived}
+use Rattle.roll.specs.Arrivals.{kept_in, Arrived}
+use Rattle.roll.specs.Searches.{Placed, First}
 use Rattle.keepers.specs.Kept.{Newest, Follows}
 use Rattle.keepers.specs.Lists.{Last}
-use Rattle.keepers.specs.Look.{no_version, look}
-use Rattle.roll.specs.View.{time_or_zero}
-use Rattle.roll.specs.Laws.{Has, inside, free_at}
+use Rattle.keepers.specs.Look.{no_version}
+use Rattle.roll.specs.Laws.{none_at}
 use Rattle.keepers.specs.declared.version.Version.{Version}
 use Rattle.cards.proofs.Newest.{newest_none, newest_is}
-use Rattle.keepers.proofs.Looks.{look_some}
+use Rattle.keepers.proofs.Looks.{look_some, filled_in}
 
 module _ (vs : List Version) (a : Arrived vs) where
   abbrev item : ℕ → Version
   item p = slice_index_or vs p no_version
 
-  -- one place for an entry and a time
-  pub once : (e p q : ℕ) → Has vs e p → Has vs e q → (item p).time ≡ (item q).time → p ≡ q
-  once e p q hp hq y =
-      elim (cases_order p q) [
-        | inl is ↦ is
-        | inr (inl lt) ↦ absurd (omega (arith, a.rising p q lt (inside vs e q hq) (hp.1 ∙ sym hq.1)))
-        | inr (inr gt) ↦ absurd (omega (arith, a.rising q p gt (inside vs e p hp) (hq.1 ∙ sym hp.1)))
-      ]
-
-  pub has : (e p : ℕ) → p < length vs → (item p).entry ≡ e → Has vs e p
-  has e p l y = ((a.each p l).1, y)
-
-  pub kept_at : (e p : ℕ) → Has vs e p → look (λ v. v) vs e (item p).time ≡ Some (item p).card
-  kept_at e p h = look_some (λ v. v) no_version vs e (item p).time p (λ q o y. once e q p o h y) h refl refl
+  -- every version is held, since no other has its entry and time
+  pub kept_at : (p : ℕ) → p < length vs → kept_in vs (item p).entry (item p).time ≡ Some (item p).card
+  kept_at p l =
+      look_some (λ v. v) no_version vs _ _ p
+      (λ q o y. let k = filled_in (λ v. v) no_version vs q refl o.0 in grind (arith, a.rising p q no_version, a.rising q p no_version))
+      ((a.each p no_version l).1, refl) refl refl
 
   -- the last match is the newest version
-  pub newest_last : (e u i : ℕ) → Last (λ v. (v.entry ≡ e) × (v.time ≤ u)) vs (Some i) → Newest (look (λ v. v) vs) e u (Some (item i))
-  newest_last e u i (inn, is, rest) =
+  pub newest_last : (e u : ℕ) (o : Option ℕ) → Last (λ v. (v.entry ≡ e) × (v.time ≤ u)) vs o → Newest (kept_in vs) e u (option_map item o)
+  newest_last e u None none = λ t hi. none_at vs e t (λ p l x y. none p no_version l (x, omega arith))
+  newest_last e u (Some i) (inn, is, rest) =
       let y = is no_version in
-      let h = has e i inn y.0 in (
-        y.0,
-        y.1,
-        kept_at e i h,
-        λ t lo hi. free_at vs e t (λ p l o z.
-            elim (cases_order p i) [
-              | inl q ↦ omega (arith, ap (λ n. (item n).time) q)
-              | inr (inl lt) ↦ omega (arith, a.rising p i lt inn (o.1 ∙ sym h.1))
-              | inr (inr gt) ↦ rest p no_version gt l (o.1, omega arith)
-            ]),
-      )
+      (y.0, y.1, rw y.0 at (kept_at i inn), λ t lo hi. none_at vs e t (λ p l x z. grind (arith, a.rising p i no_version, rest p no_version)))
 
-  pub newest_absent : (e u : ℕ) → Last (λ v. (v.entry ≡ e) × (v.time ≤ u)) vs None → Newest (look (λ v. v) vs) e u None
-  newest_absent e u none = λ t hi. free_at vs e t (λ p l o y. none p no_version l (o.1, omega arith))
-
-  -- no version of the time itself
-  pub absent : (e u : ℕ) → Last (λ v. (v.entry ≡ e) × (v.time ≤ u)) vs None → look (λ v. v) vs e u ≡ None
-  absent e u none = newest_absent e u none u (omega arith)
-
-  pub absent_at : (e u i : ℕ) → Last (λ v. (v.entry ≡ e) × (v.time ≤ u)) vs (Some i) → ((item i).time ≢ u) → look (λ v. v) vs e u ≡ None
-  absent_at e u i last ne = (newest_last e u i last).3 u (omega (arith, (last.1 no_version).1)) (omega arith)
+  -- a version at a time is the newest up to that time
+  pub placed_at : (e t : ℕ) (o r : Option ℕ) → Last (λ v. (v.entry ≡ e) × (v.time ≤ t)) vs o → MatchOption o (r ≡ None) (λ i. r ≡ then_some ((item i).time == t) i) → Placed e t vs r
+  placed_at e t None r last is = rw is (newest_last e t None last t (omega arith))
+  placed_at e t (Some i) r last is =
+      let y = last.1 no_version in
+      elim (cases_eq (item i).time t) [
+        | inl q ↦ rw (is, eq-eqb _ t q) (last.0, y.0, q, rw (y.0, q) at (kept_at i last.0))
+        | inr ne ↦ rw (is, ne_eqb _ t ne) ((newest_last e t (Some i) last).3 t (omega (arith, ne)) (omega arith))
+      ]
 
   -- the first later version is the next one
-  pub follows_first : (e u i : ℕ) → i < length vs → (item i).entry ≡ e → u < (item i).time → ((k : ℕ) → k < i → (item k).entry ≡ e → u < (item k).time → ⊥) → Follows (look (λ v. v) vs) e u (Some (item i).time)
-  follows_first e u i inn y above before = (
-    above,
-    ap is_some (kept_at e i (has e i inn y)),
-    λ t lo hi. free_at vs e t (λ p l o z.
-        elim (cases_order p i) [
-          | inl q ↦ omega (arith, ap (λ n. (item n).time) q)
-          | inr (inl lt) ↦ before p lt o.1 (omega arith)
-          | inr (inr gt) ↦ omega (arith, a.rising i p gt l (y ∙ sym o.1))
-        ]),
-  )
+  pub next_first : (e u : ℕ) (r : Option ℕ) → First e u vs r → Follows (kept_in vs) e u r
+  next_first e u None none = λ t lo. none_at vs e t (λ p l x y. none p no_version l (x, omega arith))
+  next_first e u (Some t) (i, inn, is, before) =
+      let y = is no_version in
+      (omega arith, rw (y.0.0, y.1) at (ap is_some (kept_at i inn)), λ s lo hi. none_at vs e s (λ p l x z. grind (arith, a.rising i p no_version, before p no_version)))
 
-  pub follows_absent : (e u : ℕ) → ((k : ℕ) → k < length vs → (item k).entry ≡ e → u < (item k).time → ⊥) → Follows (look (λ v. v) vs) e u None
-  follows_absent e u none = λ t lo. free_at vs e t (λ p l o y. none p l o.1 (omega arith))
-
--- what is found without a limit of time tells the newest time, and nothing is later
-pub newest_found : (m : Kept) (e : ℕ) (r : Option Version) → ((u : ℕ) → 2 ^ 32 ≤ u → m e u ≡ None) → Newest m e (2 ^ 32 - 1) r → (newest_time m e ≡ time_or_zero r) × ((u : ℕ) → time_or_zero r < u → m e u ≡ None)
-newest_found m e None past none = (newest_none m e all, λ u l. all u)
-  where
-    all : (u : ℕ) → m e u ≡ None
-    all u = elim (cases_lt u (2 ^ 32)) [ inl l ↦ none u (omega arith) | inr l ↦ past u l ]
-newest_found m e (Some v) past (y, hi, is, none) = (newest_is m e v.time (omega arith) (ap is_some is) top, top)
-  where
-    top : (u : ℕ) → v.time < u → m e u ≡ None
-    top u l = elim (cases_lt u (2 ^ 32)) [ inl k ↦ none u l (omega arith) | inr k ↦ past u k ]
+-- what is found without a limit of time tells the newest time
+pub newest_found : (m : Kept) (e : ℕ) (r : Option Version) → ((u : ℕ) → 2 ^ 32 ≤ u → m e u ≡ None) → Newest m e (2 ^ 32 - 1) r → option_map_or (λ v. v.time) r 0 ≡ newest_time m e
+newest_found m e None past none = sym (newest_none m e (λ u. grind (arith, none u, past u)))
+newest_found m e (Some v) past (y, hi, some, none) = sym (newest_is m e v.time (omega arith) (ap is_some some) (λ u l. grind (arith, none u, past u)))

@@ -1,8 +1,8 @@
 -- Versions in their order of arrival, in the front of a list of places.
-use Rattle.std.specs.Prelude.{◌≡◌, ℕ, ◌-◌, ◌^◌, ◌<◌, ◌≤◌, List, ◌++◌, length, get_or, take, drop, slice_index_or}
-use Rattle.std.specs.List.{remove}
-use Rattle.cards.specs.Versions.{held_in}
-use Rattle.keepers.specs.Look.{no_version, look}
+use Rattle.std.specs.Prelude.{◌≡◌, ℕ, ◌-◌, ◌^◌, ◌<◌, ◌≤◌, List, ◌++◌, length, take, drop}
+use Rattle.std.specs.List.{All, AllPairs, remove}
+use Rattle.cards.specs.Versions.{Kept, held_in}
+use Rattle.keepers.specs.Look.{look}
 use Rattle.keepers.specs.Memory.{most_places}
 use Rattle.keepers.specs.declared.version.Version.{Version}
 
@@ -10,17 +10,25 @@ use Rattle.keepers.specs.declared.version.Version.{Version}
 abbrev pub Proper : Version → Type 0
 Proper v = (v.entry < 1024) × (0 < v.time) × (v.time < 2 ^ 32)
 
+-- w is later than v, if they are of one entry
+abbrev pub Rising : Version → Version → Type 0
+Rising v w = v.entry ≡ w.entry → v.time < w.time
+
+-- what the versions in a list mean together
+abbrev pub kept_in : List Version → Kept
+kept_in vs = look (λ v. v) vs
+
 -- every version is proper, and of two of one entry the one that arrived first has the earlier time
 pub record Arrived (vs : List Version) : Type 0 where
-  pub each : (p : ℕ) → p < length vs → Proper (slice_index_or vs p no_version)
-  pub rising : (i j : ℕ) → i < j → j < length vs → (get_or vs i no_version).entry ≡ (get_or vs j no_version).entry → (get_or vs i no_version).time < (get_or vs j no_version).time
+  pub each : All Proper vs
+  pub rising : AllPairs Rising vs
 
 -- the first places of xs, `held` of them, hold a version each
 pub record Rolled (xs : List Version) (held : ℕ) : Type 0 where
   pub within : held ≤ length xs
   pub few : held ≤ most_places
   pub arrived : Arrived (take held xs)
-  pub counted : held ≡ held_in (look (λ v. v) (take held xs))
+  pub counted : held ≡ held_in (kept_in (take held xs))
 
 -- the first `held` items without the one at a place, then the last of them and what follows as they were
 abbrev pub closed : {X : Type 0} → List X → ℕ → ℕ → List X

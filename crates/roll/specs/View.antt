@@ -1,9 +1,9 @@
 -- What a roll means.
-use Rattle.std.specs.Prelude.{ℕ, List, take, Some, None, vec_items, vec_len, Option}
+use Rattle.std.specs.Prelude.{ℕ, List, take, vec_items, vec_len}
 use Rattle.std.specs.Global.{Vec}
 use Rattle.cards.specs.Versions.{Kept}
-use Rattle.keepers.specs.Look.{look}
 use Rattle.keepers.specs.Memory.{used_of}
+use Rattle.roll.specs.Arrivals.{kept_in}
 use Rattle.roll.specs.declared.keeper.Roll.{Roll}
 use Rattle.keepers.specs.declared.version.Version.{Version}
 
@@ -13,7 +13,7 @@ roll_front s = take s.held (vec_items s.places)
 
 -- what they mean together
 abbrev pub roll_kept : Roll → Kept
-roll_kept s = look (λ v. v) (roll_front s)
+roll_kept s = kept_in (roll_front s)
 
 -- how many it has room for, with those that it holds
 abbrev pub roll_places : Roll → ℕ
@@ -22,8 +22,3 @@ roll_places s = used_of (vec_len s.places)
 -- the memory that it was given
 abbrev pub roll_memory : Roll → Vec Version
 roll_memory s = s.places
-
--- the time of a version, 0 without one
-abbrev pub time_or_zero : Option Version → ℕ
-time_or_zero None = 0
-time_or_zero (Some v) = v.time

@@ -1,52 +1,50 @@
 // What a roll does as a keeper.
-ghost use Rattle.std.specs.Prelude.{◌≡◌, ◌≤◌, length};
-ghost use Rattle.roll.specs.Arrivals.{Arrived};
-ghost use Rattle.keepers.specs.Kept.{Follows};
-ghost use Rattle.keepers.specs.Look.{look};
-ghost use Rattle.keepers.specs.Memory.{most_places};
-ghost use Rattle.roll.specs.View.{roll_front, roll_kept, roll_places, time_or_zero};
+ghost use Rattle.std.specs.Prelude.{◌≡◌};
+ghost use Rattle.cards.specs.Versions.{newest_time};
+ghost use Rattle.roll.specs.Searches.{Placed, First};
+ghost use Rattle.roll.specs.View.{roll_front, roll_kept, roll_places};
 ghost use Rattle.roll.specs.Laws.{entries_law, starts_law, times_law, fits_law};
 
 use crate::gap::close_gap;
 use crate::keeper::Roll;
 use cards::refusal::Refusal;
+use keepers::entry::EntryNumber;
 use keepers::keeper::Keeper;
 use keepers::memory::MOST_PLACES;
 use keepers::search::last_match;
 use keepers::version::Version;
 
-// The time of a version, 0 without one.
-fn time_of(version: Option<Version>) -> u32
-    ensures { result ≡ time_or_zero version }
-{
-    match version {
-        Some(found) => found.time,
-        None => 0,
-    }
-}
-
 // The first time of an entry above a time: in order of arrival that is the least one.
 fn first_after(versions: &[Version], entry: u16, time: u32) -> Option<u32>
-    requires { Arrived versions.now }
-    ensures { Follows (look (λ v. v) versions.now) entry time result }
+    ensures { First entry time versions.now result }
 {
-    for version in versions {
-        if version.entry == entry && version.time > time {
-            return Some(version.time);
-        }
-    }
-    None
+    versions
+        .iter()
+        .find(|version| version.entry == entry && version.time > time)
+        .map(|version| version.time)
 }
 
 impl Roll {
     // The versions that are held.
     fn front(&self) -> &[Version]
-        ensures held { result.now ≡ roll_front self.now }
-        ensures count { length result.now ≡ self.now.held }
-        ensures few { length result.now ≤ most_places }
-        ensures arrived { Arrived result.now }
+        ensures { result.now ≡ roll_front self.now }
     {
-        &self.places[0..self.held]
+        &self.places[..self.held]
+    }
+
+    // The place of an entry's version at a time.
+    fn place_of(&self, entry: u16, time: u32) -> Option<usize>
+        ensures { Placed entry time (roll_front self.now) result }
+    {
+        let versions = self.front();
+        last_match(versions, entry, time).filter(|at| versions[*at].time == time)
+    }
+
+    // The newest time of an entry, 0 where it has no version.
+    fn newest_time(&self, entry: u16) -> u32
+        ensures { result ≡ newest_time (roll_kept self.now) entry }
+    {
+        self.find(entry, u32::MAX).map_or(0, |newest| newest.time)
     }
 }
 
@@ -72,13 +70,11 @@ impl Keeper for Roll {
     }
 
     fn add(&mut self, version: Version) -> Result<(), Refusal> {
-        if version.entry >= 1024 {
-            return Err(Refusal::Entry);
-        }
+        EntryNumber::try_from(version.entry)?;
         if self.spare() == 0 {
             return Err(Refusal::Full);
         }
-        if version.time <= time_of(self.find(version.entry, u32::MAX)) {
+        if version.time <= self.newest_time(version.entry) {
             return Err(Refusal::Order);
         }
         self.places[self.held] = version;
@@ -88,10 +84,7 @@ impl Keeper for Roll {
 
     fn find(&self, entry: u16, up_to: u32) -> Option<Version> {
         let versions = self.front();
-        match last_match(versions, entry, up_to) {
-            Some(at) => Some(versions[at]),
-            None => None,
-        }
+        last_match(versions, entry, up_to).map(|at| versions[at])
     }
 
     fn after(&self, entry: u16, time: u32) -> Option<u32> {
@@ -99,13 +92,9 @@ impl Keeper for Roll {
     }
 
     fn remove(&mut self, entry: u16, time: u32) -> bool {
-        let versions = self.front();
-        let Some(at) = last_match(versions, entry, time) else {
+        let Some(at) = self.place_of(entry, time) else {
             return false;
         };
-        if versions[at].time != time {
-            return false;
-        }
         close_gap(self.places.as_mut_slice(), at, self.held);
         self.held -= 1;
         true

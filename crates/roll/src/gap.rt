@@ -5,6 +5,7 @@ ghost use Rattle.roll.specs.Arrivals.{closed};
 use keepers::version::Version;
 
 // Moves the versions after a place one place down, up to the last that is held.
+#[tactic(auto, using(crate::proofs::Gaps::closed_is))]
 pub(crate) fn close_gap(places: &mut [Version], at: usize, held: usize)
     requires inside { at < held }
     requires within { held ≤ length places.old }

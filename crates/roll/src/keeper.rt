@@ -1,5 +1,6 @@
 // Versions in their order of arrival, in the front of memory that is handed in.
 ghost use Rattle.roll.specs.Arrivals.{Rolled};
+ghost use Rattle.roll.specs.Sound.{rolled_prop};
 
 use keepers::version::Version;
 
@@ -8,5 +9,5 @@ use keepers::version::Version;
 pub struct Roll {
     pub(crate) places: Vec<Version>,
     pub(crate) held: usize,
-    ghost sound: { ∥ Rolled places.items held ∥₁ },
+    ghost sound: { Rolled places.items held } by { rolled_prop places.items held },
 }

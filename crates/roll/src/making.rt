@@ -9,6 +9,7 @@ use keepers::version::Version;
 
 impl Roll {
     // A roll of no version. Nothing is written, and memory past the first 65,536 places is not used.
+    #[tactic(auto, using(crate::proofs::Adds::rolled_none))]
     pub fn new(memory: Vec<Version>) -> Roll
         ensures empty { Empty (roll_kept result) }
         ensures places { roll_places result ≡ used_of (vec_len memory) }

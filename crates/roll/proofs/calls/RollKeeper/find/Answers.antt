@@ -1,14 +1,12 @@
-use Rattle.std.proofs.Common.{List, get_or, Some, None, subst}
-use Rattle.keepers.specs.Kept.{Newest}
-use Rattle.keepers.specs.Look.{no_version, look}
-use Rattle.keepers.specs.declared.version.Version.{Version}
-use Rattle.roll.proofs.Meanings.{newest_last, newest_absent}
+use Rattle.std.specs.Prelude.{◌≡◌, slice_index_or}
+use Rattle.std.specs.Option.{option_map}
+use Rattle.std.proofs.Common.{rules}
+use Rattle.keepers.specs.Look.{no_version}
+use Rattle.roll.specs.View.{roll_front}
+use Rattle.roll.proofs.Meanings.{newest_last}
 use Rattle.roll.proofs.calls.RollKeeper.find.Goals as goal
 
-pub returns-in-Some : goal.returns-in-Some
-returns-in-Some c =
-    let vs = c.front-versions.result.now in
-    subst (λ (xs : List Version). Newest (look (λ v. v) xs) c.args.entry c.args.up_to (Some (get_or vs c.in-Some.at no_version))) c.front-versions.ensures.held (newest_last vs c.front-versions.ensures.arrived _ _ _ c.in-Some.ensures)
-
-pub returns-in-None : goal.returns-in-None
-returns-in-None c = subst (λ (xs : List Version). Newest (look (λ v. v) xs) c.args.entry c.args.up_to None) c.front-versions.ensures.held (newest_absent _ c.front-versions.ensures.arrived _ _ c.in-None.ensures)
+pub returns : goal.returns
+returns c =
+    let is : c.map.result ≡ option_map (λ at. slice_index_or (roll_front c.args.self.now) at no_version) c.last_match.result = search rules in
+    rw is (newest_last _ c.args.self.now.sound.arrived _ _ _ (rw c.front-versions.ensures at c.last_match.ensures))
