@@ -7,7 +7,7 @@ ghost use Rattle.cards.specs.declared.card.Card.{Card};
 use crate::card::Card;
 use crate::refusal::Refusal;
 
-// The length of a packed card, by its bit map.
+// The length of a packed card, by its bit map. The format takes it from a table, so none is computed.
 const LENGTHS: [u8; 64] = [
     1, 3, 3, 5, 3, 5, 5, 7, 3, 5, 5, 7, 5, 7, 7, 9, 3, 5, 5, 7, 5, 7, 7, 9, 5, 7, 7, 9, 7, 9, 9,
     11, 3, 5, 5, 7, 5, 7, 7, 9, 5, 7, 7, 9, 7, 9, 9, 11, 5, 7, 7, 9, 7, 9, 9, 11, 7, 9, 9, 11, 9,
@@ -33,7 +33,8 @@ pub fn packed_len(card: Card) -> usize
     length_of(card.map())
 }
 
-// Writes a field's bytes from a place on, and says where they end.
+// Writes a field's bytes from a place on, and says where they end. The buffer is lent, so its place
+// stands beside it; a type for the two would serve `pack` alone.
 fn put_field(out: &mut [u8], at: usize, field: Option<i16>) -> usize
     requires { at + length (field_bytes field) ≤ length out.old }
     ensures end { result ≡ at + length (field_bytes field) }

@@ -35,7 +35,7 @@ impl Refusal {
         self as u8
     }
 
-    // Its word, for people.
+    // Its word, for people. A `Display` promises no more than its text, and hosts want the text itself.
     pub fn word(self) -> &'static str
         ensures { result.now ≡ word_of self }
     {

@@ -20,6 +20,7 @@ fn version(entry: u16, time: u32) -> Version {
     Version { entry, time, card }
 }
 
+// Each keeper is made in its own way, so there is a maker for each.
 fn linked(heap: Global, places: usize) -> Result<Linked, AllocError> {
     Ok(Linked::new(vec![in heap; Place::empty(); places]?))
 }
@@ -28,7 +29,7 @@ fn roll(heap: Global, places: usize) -> Result<Roll, AllocError> {
     Ok(Roll::new(vec![in heap; version(0, 7); places]?))
 }
 
-// The time of the newest version up to a time, 0 without one.
+// The time of the newest version up to a time, 0 without one: no version has that time.
 fn found<K: Keeper>(keeper: &K, entry: u16, up_to: u32) -> u32 {
     keeper.find(entry, up_to).map_or(0, |v| v.time)
 }

@@ -6,7 +6,8 @@ ghost use Rattle.keepers.specs.Kept.{Newest, Follows, add_refusal, added, said};
 use crate::version::Version;
 use cards::refusal::Refusal;
 
-// A keeper means a set of versions and a number of places, and no call changes that number.
+// A keeper means a set of versions and a number of places, and no call changes that number. An entry and a time stay two parameters: the
+// calls ask three different things of the time, so one type for the pair would say less.
 pub trait Keeper {
     ghost kept: { Self → Kept };
 

@@ -2,7 +2,8 @@
 ghost use Rattle.std.specs.Prelude.{◌≡◌, ℕ, ◌≤◌};
 ghost use Rattle.keepers.specs.Lists.{Last};
 
-// An item of a list that bears an entry number. One without a time counts as time 0.
+// An item of a list that bears an entry number. One without a time counts as time 0, and says so in its impl: a body given here would have
+// to be proved of whatever time an impl means, and can't be.
 pub trait BearsEntry {
     ghost entry_of: { Self → ℕ };
 

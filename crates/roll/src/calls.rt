@@ -40,7 +40,7 @@ impl Roll {
         last_match(versions, entry, time).filter(|at| versions[*at].time == time)
     }
 
-    // The newest time of an entry, 0 where it has no version.
+    // The newest time of an entry, 0 where it has no version: no version has time 0, so one test serves both.
     fn newest_time(&self, entry: u16) -> u32
         ensures { result ≡ newest_time (roll_kept self.now) entry }
     {
@@ -62,10 +62,12 @@ impl Keeper for Roll {
     ghost fits = { fits_law };
 
     fn held(&self) -> u32 {
+        // A proved cast: `u32::try_from` would want the same proof for its `unwrap`.
         self.held as u32
     }
 
     fn spare(&self) -> u32 {
+        // As in `held`.
         (self.places.len().min(MOST_PLACES) - self.held) as u32
     }
 

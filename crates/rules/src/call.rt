@@ -32,7 +32,7 @@ pub enum Call {
 }
 
 impl Call {
-    // Its place among the eleven, from 1.
+    // Its place among the eleven, from 1. No `From`: a call is more than its number.
     pub fn number(self) -> u8
         ensures { result ≡ (call_told self).number }
     {
