@@ -1,10 +1,10 @@
 -- A version put in the first free place, before the others of its entry.
-use Rattle.std.proofs.Common.{◌≡◌, ℕ, ◌+◌, ◌^◌, ◌<◌, ◌≤◌, ◌≢◌, List, get_or, set, Some, None, vec_items, Option, sym, refl, ap, ◌∙◌, subst, inl, inr, arith}
+use Rattle.std.proofs.Common.{◌≡◌, ℕ, ◌+◌, ◌^◌, ◌<◌, ◌≤◌, ◌≢◌, List, get_or, set, Some, None, vec_items, Option, sym, refl, ap, ◌∙◌, subst, ap₂, inl, inr, arith}
 use Rattle.std.proofs.lemmas.List.{get_or-set_same, get_or-set_other, length-set}
 use Rattle.std.proofs.lemmas.Bool.{cases_eq}
 use Rattle.cards.specs.Versions.{with_card, held_in}
 use Rattle.keepers.specs.Look.{holds}
-use Rattle.linked.specs.Chain.{empty_place, version_of, used_places, kept_in, time_at, entry_at, next_at, below_at, time_or_zero, OfEntry, Free, Chained, Freed, Sound}
+use Rattle.linked.specs.Chain.{held_place, empty_place, version_of, next_of, below_of, used_places, kept_in, time_at, entry_at, next_at, below_at, time_or_zero, OfEntry, Free, Chained, Freed, Sound}
 use Rattle.linked.specs.View.{linked_used, linked_kept}
 use Rattle.linked.specs.declared.keeper.Linked.{Linked}
 use Rattle.linked.specs.declared.place.Place.{Place}
@@ -12,11 +12,13 @@ use Rattle.keepers.specs.declared.version.Version.{Version}
 use Rattle.cards.proofs.Counts.{held_more, with_here, with_other, same_set}
 use Rattle.keepers.proofs.Looks.{look_some, holds_not}
 use Rattle.linked.specs.Laws.{none_kept, sound_of}
-use Rattle.linked.proofs.Edits.{Like, time_like, entry_like, old_of, new_of, old_free, new_free, like_kept, like_set, used_written}
+use Rattle.keepers.specs.declared.entry.EntryNumber.{EntryNumber}
+use Rattle.linked.proofs.Facts.{first_free, entry_below, newest}
+use Rattle.linked.proofs.Edits.{Like, time_like, entry_like, old_of, new_of, old_free, new_free, like_kept, like_set, used_in, used_written, Timed, held_timed}
 
 module _ {ps : List Place} {hs : List (Option ℕ)} {f : Option ℕ} {n h : ℕ} (s : Sound ps hs f n h) (p : ℕ) (v : Version) (is : f ≡ Some p) (le : v.entry < 1024) (lt : v.time < 2 ^ 32) (late : time_or_zero ps (get_or hs v.entry None) < v.time) where
   abbrev new : Place
-  new = record { version = v; next = get_or hs v.entry None; below = 0 }
+  new = held_place (record { version = v; older = get_or hs v.entry None })
 
   abbrev ps' : List Place
   ps' = set ps p new
@@ -41,10 +43,10 @@ module _ {ps : List Place} {hs : List (Option ℕ)} {f : Option ℕ} {n h : ℕ}
   here r q = ap (λ (k : ℕ). get_or ps' k empty_place) q ∙ get_or-set_same ps p new empty_place free.0.0
 
   t_here : (r : ℕ) → r ≡ p → time_at ps' r ≡ v.time
-  t_here r q = ap (λ (x : Place). x.version.time) (here r q)
+  t_here r q = ap (λ (x : Place). (version_of x).time) (here r q)
 
   e_here : (r : ℕ) → r ≡ p → entry_at ps' r ≡ v.entry
-  e_here r q = ap (λ (x : Place). x.version.entry) (here r q)
+  e_here r q = ap (λ (x : Place). (version_of x).entry) (here r q)
 
   like : Like ps ps' p
   like = like_set ps p new
@@ -56,7 +58,7 @@ module _ {ps : List Place} {hs : List (Option ℕ)} {f : Option ℕ} {n h : ℕ}
   e_other = entry_like like
 
   n_other : (r : ℕ) → r ≢ p → next_at ps' r ≡ next_at ps r
-  n_other r ne = ap (λ (x : Place). x.next) (get_or-set_other ps p r new empty_place ne)
+  n_other r ne = ap next_of (get_or-set_other ps p r new empty_place ne)
 
   h_here : (d : ℕ) → d ≡ v.entry → get_or hs' d None ≡ Some p
   h_here d q = ap (λ (k : ℕ). get_or hs' k None) q ∙ get_or-set_same hs v.entry (Some p) None (omega (arith, s.chained.heads))
@@ -77,7 +79,7 @@ module _ {ps : List Place} {hs : List (Option ℕ)} {f : Option ℕ} {n h : ℕ}
   next_some a b l x =
       elim (cases_eq a p) [
         | inl q ↦
-            (let top = s.chained.head_some v.entry b (sym (ap (λ (y : Place). y.next) (here a q)) ∙ x) in
+            (let top = s.chained.head_some v.entry b (sym (ap next_of (here a q)) ∙ x) in
             let nb : b ≢ p = apart b top.0.0 in
             let o = new_of like v.entry b nb top.0 in (
               (o.0, o.1 ∙ sym (e_here a q)),
@@ -105,7 +107,7 @@ module _ {ps : List Place} {hs : List (Option ℕ)} {f : Option ℕ} {n h : ℕ}
       elim (cases_eq a p) [
         | inl q ↦ elim (cases_eq r p) [
           | inl z ↦ omega (arith, t_here a q, t_here r z)
-          | inr nr ↦ absurd (s.chained.head_none v.entry (sym (ap (λ (y : Place). y.next) (here a q)) ∙ x) le r (old_of like v.entry r nr (o.0, o.1 ∙ e_here a q)))
+          | inr nr ↦ absurd (s.chained.head_none v.entry (sym (ap next_of (here a q)) ∙ x) le r (old_of like v.entry r nr (o.0, o.1 ∙ e_here a q)))
         ]
         | inr na ↦ elim (cases_eq r p) [
           | inl z ↦ omega (arith, older a r na z l (sym o.1))
@@ -203,9 +205,9 @@ module _ {ps : List Place} {hs : List (Option ℕ)} {f : Option ℕ} {n h : ℕ}
   add_kept =
       same_set _ _ v.entry v.time
       (look_some version_of empty_place ps' v.entry v.time p (λ q o w. chained.once q p o.0 (o.1 ∙ sym (e_here p refl)) (w ∙ sym (t_here p refl))) (omega (arith, t_here p refl), e_here p refl) (t_here p refl) refl
-      ∙ ap (λ (x : Place). Some x.version.card) (here p refl) ∙ sym (with_here (kept_in ps) v.entry v.time v.card))
+      ∙ ap (λ (x : Place). Some (version_of x).card) (here p refl) ∙ sym (with_here (kept_in ps) v.entry v.time v.card))
       (λ d u ne.
-      like_kept like d u (ap (λ (x : Place). holds x.version d u) (here p refl) ∙ holds_not v d u (λ _ x y. ne (sym x) (sym y)) ∙ sym (holds_not (get_or ps p empty_place).version d u (λ l x y. omega (arith, free.0.1))))
+      like_kept like d u (ap (λ (x : Place). holds (version_of x) d u) (here p refl) ∙ holds_not v d u (λ _ x y. ne (sym x) (sym y)) ∙ sym (holds_not (version_of (get_or ps p empty_place)) d u (λ l x y. omega (arith, free.0.1))))
       ∙ sym (with_other (kept_in ps) v.entry v.time v.card d u ne))
 
   add_sound : Sound ps' hs' (next_at ps p) (below_at ps p) (h + 1)
@@ -215,19 +217,27 @@ module _ {ps : List Place} {hs : List (Option ℕ)} {f : Option ℕ} {n h : ℕ}
     counted = ap (λ (k : ℕ). k + 1) s.counted ∙ sym (ap held_in add_kept ∙ held_more (kept_in ps) v.entry v.time v.card le lt (none_kept ps v.entry v.time (λ r o y. omega (arith, above r o))));
     total = omega (arith, like.len, s.total, free.1);
     times = λ r. elim (cases_eq r p) [ inl q ↦ omega (arith, t_here r q, lt) | inr ne ↦ omega (arith, t_other r ne, s.times r) ];
+    timed = λ r. elim (cases_eq r p) [ inl q ↦ subst Timed (sym (here r q)) (held_timed _ (omega arith)) | inr ne ↦ like.timed r ne (s.timed r) ];
   }
 
--- ---- the same in a keeper's memory: x is the free place as it was read, w the newest time as it was read
+-- ---- the same in a keeper's memory: P is written at the free place, row is the head that leads to it, w the newest time as it was
+-- read, and x the free place as it was read
 
-module _ (k : Linked) {w : ℕ} (p : ℕ) (v : Version) (is : k.free ≡ Some p) (le : v.entry < 1024) (lt : v.time < 2 ^ 32) (newest : w ≡ time_or_zero (linked_used k) (get_or k.heads v.entry None)) (late : w < v.time) where
+module _ (k : Linked) {w row at : ℕ} {P : Place} (p : ℕ) (v : Version) (e : EntryNumber) (same : e.number ≡ v.entry) (is : k.free.first ≡ Some p) (read : w ≡ time_or_zero (linked_used k) (get_or k.heads e.number None)) (late : w < v.time) (lt : v.time < 2 ^ 32) (row-is : row ≡ e.number) (at-is : at ≡ p) (P-is : P ≡ held_place (record { version = v; older = get_or k.heads row None })) where
   above_all : time_or_zero (linked_used k) (get_or k.heads v.entry None) < v.time
-  above_all = subst (λ (u : ℕ). u < v.time) newest late
+  above_all = subst (λ (u : ℕ). u < v.time) (newest k v e same is read) late
 
   abbrev placed : Place
-  placed = record { version = v; next = get_or k.heads v.entry None; below = 0 }
+  placed = held_place (record { version = v; older = get_or k.heads v.entry None })
 
-  pub placed_kept : kept_in (used_places (set (vec_items k.places) p placed)) ≡ with_card (linked_kept k) v.entry v.time v.card
-  placed_kept = ap kept_in (used_written (vec_items k.places) p placed) ∙ add_kept (sound_of k) p v is le lt above_all
+  P-same : P ≡ placed
+  P-same = P-is ∙ ap (λ (d : ℕ). held_place (record { version = v; older = get_or k.heads d None })) (row-is ∙ same)
 
-  pub placed_sound : (x : Place) → x ≡ get_or (linked_used k) p empty_place → Sound (used_places (set (vec_items k.places) p placed)) (set k.heads v.entry (Some p)) x.next x.below (k.held + 1)
-  placed_sound x read = rw (used_written (vec_items k.places) p placed, read) (add_sound (sound_of k) p v is le lt above_all)
+  written : used_places (set (vec_items k.places) at P) ≡ set (linked_used k) p placed
+  written = ap₂ (λ (a : ℕ) (x : Place). used_places (set (vec_items k.places) a x)) at-is P-same ∙ used_written (vec_items k.places) p placed (used_in (vec_items k.places) p (first_free k p is).0).1
+
+  pub placed_kept : kept_in (used_places (set (vec_items k.places) at P)) ≡ with_card (linked_kept k) v.entry v.time v.card
+  placed_kept = ap kept_in written ∙ add_kept (sound_of k) p v is (entry_below k v e same) lt above_all
+
+  pub placed_sound : (x : Place) → x ≡ get_or (linked_used k) p empty_place → Sound (used_places (set (vec_items k.places) at P)) (set k.heads row (Some p)) (next_of x) (below_of x) (k.held + 1)
+  placed_sound x place = rw (written, ap (λ (d : ℕ). set k.heads d (Some p)) (row-is ∙ same), place) (add_sound (sound_of k) p v is (entry_below k v e same) lt above_all)

@@ -1,10 +1,11 @@
 -- A version taken out of its chain, and its place put before the free ones.
 use Rattle.std.proofs.Common.{◌≡◌, ℕ, ◌+◌, ◌-◌, ◌<◌, ◌≤◌, true, ◌≢◌, ◌⊎◌, List, length, get_or, set, is_some, Some, None, vec_items, vec_len, Option, sym, refl, ap, ◌∙◌, subst, ap₂, inl, inr, arith}
-use Rattle.std.proofs.lemmas.List.{get_or-set_same, get_or-set_other, length-set, with_items_is}
+use Rattle.std.proofs.lemmas.List.{get_or-set_same, get_or-set_other, get_or-take, length-set, with_items_is}
 use Rattle.std.proofs.lemmas.Bool.{cases_eq, cases_lt}
 use Rattle.std.specs.Vec.{with_items}
 use Rattle.cards.specs.Versions.{without, held_in}
-use Rattle.linked.specs.Chain.{empty_place, free_place, version_of, used_places, kept_in, time_at, entry_at, next_at, below_at, OfEntry, Free, Chained, Freed, Sound, After, led_places, led_heads}
+use Rattle.linked.specs.Chain.{empty_place, free_place, version_of, next_of, below_of, led_place, used_places, kept_in, time_at, entry_at, next_at, below_at, OfEntry, Free, Chained, Freed, Sound, After, led_places, led_heads}
+use Rattle.keepers.specs.Memory.{most_places}
 use Rattle.linked.specs.View.{linked_used, linked_kept}
 use Rattle.linked.specs.declared.keeper.Linked.{Linked}
 use Rattle.linked.specs.declared.place.Place.{Place}
@@ -12,7 +13,7 @@ use Rattle.cards.proofs.Counts.{held_less, without_here, without_other, same_set
 use Rattle.keepers.proofs.Looks.{holds_not}
 use Rattle.linked.proofs.Chains.{in_places, kept_at, at_place}
 use Rattle.linked.specs.Laws.{none_kept, sound_of, chain_of}
-use Rattle.linked.proofs.Edits.{Like, time_like, entry_like, old_of, new_of, old_free, new_free, like_kept, like_set, used_in, used_written, used_led}
+use Rattle.linked.proofs.Edits.{Like, time_like, entry_like, old_of, new_of, old_free, new_free, like_kept, like_set, used_in, used_written, used_led, Timed, free_timed, led_version, led_below, led_timed, led_next}
 
 -- with a version less, one less is held
 less_by : {ps : List Place} {hs : List (Option ℕ)} {f : Option ℕ} {n h : ℕ} → Sound ps hs f n h → (p : ℕ) → 0 < time_at ps p → h ≡ held_in (without (kept_in ps) (entry_at ps p) (time_at ps p)) + 1
@@ -25,9 +26,7 @@ Passed ps p o o' = ((o ≡ Some p → ⊥) × (o' ≡ o)) ⊎ ((o ≡ Some p) ×
 -- what is to be shown of the places and the heads after: p is free, and passed over by what led to it
 pub record Cut (ps ps' : List Place) (hs hs' : List (Option ℕ)) (p : ℕ) (f : Option ℕ) (n : ℕ) : Type 0 where
   pub like : Like ps ps' p
-  pub gone : time_at ps' p ≡ 0
-  pub p_next : next_at ps' p ≡ f
-  pub p_below : below_at ps' p ≡ n
+  pub here : get_or ps' p empty_place ≡ free_place f n
   pub f_same : (r : ℕ) → r ≢ p → time_at ps r ≡ 0 → next_at ps' r ≡ next_at ps r
   pub n_cut : (r : ℕ) → r ≢ p → 0 < time_at ps r → Passed ps p (next_at ps r) (next_at ps' r)
   pub h_cut : (d : ℕ) → Passed ps p (get_or hs d None) (get_or hs' d None)
@@ -37,6 +36,9 @@ module _ {ps ps' : List Place} {hs hs' : List (Option ℕ)} {f : Option ℕ} {n 
   ch : Chained ps hs
   ch = s.chained
 
+  gone : time_at ps' p ≡ 0
+  gone = ap (λ (x : Place). (version_of x).time) cut.here
+
   t_same : (r : ℕ) → r ≢ p → time_at ps' r ≡ time_at ps r
   t_same = time_like cut.like
 
@@ -44,7 +46,7 @@ module _ {ps ps' : List Place} {hs hs' : List (Option ℕ)} {f : Option ℕ} {n 
   e_same = entry_like cut.like
 
   not_p : (r : ℕ) → 0 < time_at ps' r → r ≢ p
-  not_p r l q = omega (arith, ap (time_at ps') q, cut.gone)
+  not_p r l q = omega (arith, ap (time_at ps') q, gone)
 
   was_filled : (r : ℕ) → 0 < time_at ps' r → 0 < time_at ps r
   was_filled r l = omega (arith, t_same r (not_p r l))
@@ -175,10 +177,10 @@ module _ {ps ps' : List Place} {hs hs' : List (Option ℕ)} {f : Option ℕ} {n 
 
   -- p has all the others below it
   b_here : (r : ℕ) → r ≡ p → below_at ps' r ≡ n
-  b_here r q = ap (below_at ps') q ∙ cut.p_below
+  b_here r q = ap (below_at ps') q ∙ ap below_of cut.here
 
   n_here : (r : ℕ) → r ≡ p → next_at ps' r ≡ f
-  n_here r q = ap (next_at ps') q ∙ cut.p_next
+  n_here r q = ap (next_at ps') q ∙ ap next_of cut.here
 
   n_same : (r : ℕ) (ne : r ≢ p) → Free ps' r → next_at ps' r ≡ next_at ps r
   n_same r ne o = cut.f_same r ne (was_free r ne o).1
@@ -211,7 +213,7 @@ module _ {ps ps' : List Place} {hs hs' : List (Option ℕ)} {f : Option ℕ} {n 
         | inr nb ↦ s.freed.once a b (was_free a na o) (was_free b nb w) (sym (b_same a na) ∙ x ∙ b_same b nb)
       ]
     ];
-    first_some = λ q x. let y : q ≡ p = cc in ((omega (arith, y, cut.like.len, in_places ps p was), ap (time_at ps') y ∙ cut.gone), omega (arith, b_here q y));
+    first_some = λ q x. let y : q ≡ p = cc in ((omega (arith, y, cut.like.len, in_places ps p was), ap (time_at ps') y ∙ gone), omega (arith, b_here q y));
     first_none = λ x. absurd (let z : ◌≡◌ {A = ℕ} 0 1 = cc in omega arith);
   }
 
@@ -223,7 +225,7 @@ module _ {ps ps' : List Place} {hs hs' : List (Option ℕ)} {f : Option ℕ} {n 
       (none_kept ps' (entry_at ps p) (time_at ps p) (λ r o w. let nr = not_p r o.0 in other_time r nr (was_of (entry_at ps p) r o) (sym (t_same r nr) ∙ w))
       ∙ sym (without_here (kept_in ps) (entry_at ps p) (time_at ps p)))
       (λ d u ne.
-      like_kept cut.like d u (holds_not (get_or ps' p empty_place).version d u (λ l x y. omega (arith, cut.gone)) ∙ sym (holds_not (get_or ps p empty_place).version d u (λ l x y. ne (sym x) (sym y))))
+      like_kept cut.like d u (holds_not (version_of (get_or ps' p empty_place)) d u (λ l x y. omega (arith, gone)) ∙ sym (holds_not (version_of (get_or ps p empty_place)) d u (λ l x y. ne (sym x) (sym y))))
       ∙ sym (without_other (kept_in ps) (entry_at ps p) (time_at ps p) d u ne))
 
   cut_sound : (k : ℕ) → h ≡ k + 1 → Sound ps' hs' (Some p) (n + 1) k
@@ -232,7 +234,8 @@ module _ {ps ps' : List Place} {hs hs' : List (Option ℕ)} {f : Option ℕ} {n 
     freed = freed;
     counted = omega (arith, less_by s p was, ap held_in cut_kept);
     total = omega (arith, cut.like.len, s.total);
-    times = λ r. elim (cases_eq r p) [ inl q ↦ omega (arith, ap (time_at ps') q, cut.gone) | inr ne ↦ omega (arith, t_same r ne, s.times r) ];
+    times = λ r. elim (cases_eq r p) [ inl q ↦ omega (arith, ap (time_at ps') q, gone) | inr ne ↦ omega (arith, t_same r ne, s.times r) ];
+    timed = λ r. elim (cases_eq r p) [ inl q ↦ subst Timed (sym (ap (λ (k : ℕ). get_or ps' k empty_place) q ∙ cut.here)) (free_timed f n) | inr ne ↦ cut.like.timed r ne (s.timed r) ];
   }
 
 -- ---- the two ways to cut: p is its entry's newest, or the place b leads to it
@@ -253,13 +256,19 @@ module _ {ps : List Place} {hs : List (Option ℕ)} (ch : Chained ps hs) (p : �
       ]
 
   abbrev led : ℕ → Place
-  led b = record { version = (get_or ps b empty_place).version; next = next_at ps p; below = (get_or ps b empty_place).below }
+  led b = led_place (get_or ps b empty_place) (next_at ps p)
 
   -- led on, b is as it was but for its next
   led_same : {X : Type 0} (b r : ℕ) (g : Place → X) → b < length ps → g (led b) ≡ g (get_or ps b empty_place) → g (get_or (set ps b (led b)) r empty_place) ≡ g (get_or ps r empty_place)
   led_same b r g l same = elim (cases_eq r b) [
     | inl q ↦ rw q (ap g (get_or-set_same ps b (led b) empty_place l) ∙ same)
     | inr ne ↦ ap g (get_or-set_other ps b r (led b) empty_place ne)
+  ]
+
+  still_timed : (b r : ℕ) → b < length ps → Timed (get_or ps r empty_place) → Timed (get_or (set ps b (led b)) r empty_place)
+  still_timed b r l t = elim (cases_eq r b) [
+    | inl q ↦ rw (q, get_or-set_same ps b (led b) empty_place l) (led_timed (get_or ps b empty_place) (next_at ps p) (rw q at t))
+    | inr ne ↦ rw (get_or-set_other ps b r (led b) empty_place ne) t
   ]
 
   module _ (f : Option ℕ) (n : ℕ) where
@@ -271,12 +280,10 @@ module _ {ps : List Place} {hs : List (Option ℕ)} (ch : Chained ps hs) (p : �
       cut_head af le =
           let top = ch.head_some e p (sym (af.first refl)) in
           let here : get_or (set ps p out) p empty_place ≡ out = get_or-set_same ps p out empty_place (in_places ps p top.0.0) in
-          let other : (r : ℕ) → r ≢ p → next_at (set ps p out) r ≡ next_at ps r = λ r ne. ap (λ (x : Place). x.next) (get_or-set_other ps p r out empty_place ne) in
+          let other : (r : ℕ) → r ≢ p → next_at (set ps p out) r ≡ next_at ps r = λ r ne. ap next_of (get_or-set_other ps p r out empty_place ne) in
           record {
             like = like_set ps p out;
-            gone = ap (λ (x : Place). x.version.time) here;
-            p_next = ap (λ (x : Place). x.next) here;
-            p_below = ap (λ (x : Place). x.below) here;
+            here = here;
             f_same = λ r ne _. other r ne;
             n_cut = λ r ne l. inl ((λ x. let k = ch.next_some r p l x in omega (arith, top.1 r (l, sym k.0.1 ∙ top.0.1), k.1)), other r ne);
             h_cut = λ d. elim (cases_eq d e) [
@@ -294,20 +301,19 @@ module _ {ps : List Place} {hs : List (Option ℕ)} (ch : Chained ps hs) (p : �
           let in_p : p < length (set ps b (led b)) = simp length-set (in_places ps p nx.0.0) in
           let like-p = like_set (set ps b (led b)) p out in
           let here : get_or (set (set ps b (led b)) p out) p empty_place ≡ out = get_or-set_same (set ps b (led b)) p out empty_place in_p in
-          let next-p : (r : ℕ) → r ≢ p → next_at (set (set ps b (led b)) p out) r ≡ next_at (set ps b (led b)) r = λ r ne. ap (λ (x : Place). x.next) (get_or-set_other (set ps b (led b)) p r out empty_place ne) in
-          let other : (r : ℕ) → r ≢ p → r ≢ b → next_at (set (set ps b (led b)) p out) r ≡ next_at ps r = λ r ne nb. next-p r ne ∙ ap (λ (x : Place). x.next) (get_or-set_other ps b r (led b) empty_place nb) in
+          let next-p : (r : ℕ) → r ≢ p → next_at (set (set ps b (led b)) p out) r ≡ next_at (set ps b (led b)) r = λ r ne. ap next_of (get_or-set_other (set ps b (led b)) p r out empty_place ne) in
+          let other : (r : ℕ) → r ≢ p → r ≢ b → next_at (set (set ps b (led b)) p out) r ≡ next_at ps r = λ r ne nb. next-p r ne ∙ ap next_of (get_or-set_other ps b r (led b) empty_place nb) in
           record {
             like = record {
-              version = λ r ne. like-p.version r ne ∙ led_same b r version_of in_b refl;
-              below = λ r ne. like-p.below r ne ∙ led_same b r (λ (x : Place). x.below) in_b refl;
+              version = λ r ne. like-p.version r ne ∙ led_same b r version_of in_b (led_version (get_or ps b empty_place) (next_at ps p));
+              below = λ r ne. like-p.below r ne ∙ led_same b r below_of in_b (led_below (get_or ps b empty_place) (next_at ps p));
+              timed = λ r ne t. like-p.timed r ne (still_timed b r in_b t);
               len = like-p.len ∙ length-set ps b (led b);
             };
-            gone = ap (λ (x : Place). x.version.time) here;
-            p_next = ap (λ (x : Place). x.next) here;
-            p_below = ap (λ (x : Place). x.below) here;
+            here = here;
             f_same = λ r ne z. other r ne (λ q. omega (arith, ap (time_at ps) q, w.0.0));
             n_cut = λ r ne l. elim (cases_eq r b) [
-              | inl q ↦ inr (ap (next_at ps) q ∙ w.2, next-p r ne ∙ ap (next_at (set ps b (led b))) q ∙ ap (λ (x : Place). x.next) (get_or-set_same ps b (led b) empty_place in_b))
+              | inl q ↦ inr (ap (next_at ps) q ∙ w.2, next-p r ne ∙ ap (next_at (set ps b (led b))) q ∙ ap next_of (get_or-set_same ps b (led b) empty_place in_b) ∙ led_next (get_or ps b empty_place) (next_at ps p) w.0.0)
               | inr nb ↦ inl ((λ x. nb (only b r w.0.0 w.2 l x)), other r ne nb)
             ];
             h_cut = λ d. inl ((λ x. let top = ch.head_some d p x in omega (arith, top.1 b (w.0.0, sym nx.0.1 ∙ top.0.1), nx.1)), refl);
@@ -324,9 +330,9 @@ module _ (k : Linked) {e t : ℕ} {b a : Option ℕ} (af : After (linked_used k)
   before_in : (q : ℕ) → b ≡ Some q → q < length (linked_used k)
   before_in q so = in_places (linked_used k) q (af.later q so).0.0
 
-  -- the place before it is in the memory
-  pub before_memory : {ys : List Place} → ys ≡ vec_items k.places → (q : ℕ) → b ≡ Some q → q < length ys
-  before_memory is q so = rw is (used_in (vec_items k.places) q (before_in q so)).0
+  -- the place before it holds a version
+  pub before_memory : {ys : List Place} → ys ≡ vec_items k.places → (q : ℕ) → b ≡ Some q → 0 < time_at ys q
+  before_memory is q so = rw is (omega (arith, ap (λ (x : Place). (version_of x).time) (get_or-take most_places (vec_items k.places) q empty_place (used_in (vec_items k.places) q (before_in q so)).1), (af.later q so).0.0))
 
   module _ (p : ℕ) (is : a ≡ Some p) where
     of : OfEntry (linked_used k) e p
@@ -338,34 +344,37 @@ module _ (k : Linked) {e t : ℕ} {b a : Option ℕ} (af : After (linked_used k)
     pub some_held : 1 ≤ k.held
     some_held = omega (arith, less_by (sound_of k) p of.0)
 
-    module _ {x : Place} (read : x ≡ get_or (linked_used k) p empty_place) (at : x.version.time ≡ t) where
+    module _ {x : Place} (read : x ≡ get_or (linked_used k) p empty_place) (at : (version_of x).time ≡ t) where
       time_is : time_at (linked_used k) p ≡ t
-      time_is = ap (λ (y : Place). y.version.time) (sym read) ∙ at
+      time_is = ap (λ (y : Place). (version_of y).time) (sym read) ∙ at
 
       pub out_found : is_some (linked_kept k e t) ≡ true
       out_found = subst (λ (u : ℕ). is_some (linked_kept k e u) ≡ true) time_is (ap is_some (kept_at (chain_of k) e p of))
 
       -- in ws, what led to p leads on; in zs, the memory after, p is free too
-      module _ {ys ws : List Place} {gs : List (Option ℕ)} {P : Place} (le : e < 1024) (ys-is : ys ≡ vec_items k.places) (ws-is : ws ≡ led_places ys b x.next) (gs-is : gs ≡ led_heads k.heads e b x.next) (len : length ws ≡ vec_len k.places) (P-is : P ≡ free_place k.free k.spare) where
+      module _ {ys ws : List Place} {gs : List (Option ℕ)} {P : Place} {r : ℕ} (le : e < 1024) (ys-is : ys ≡ vec_items k.places) (ws-is : ws ≡ led_places ys b (next_of x)) (gs-is : gs ≡ led_heads k.heads e b (next_of x)) (len : length ws ≡ vec_len k.places) (r-is : r ≡ p) (P-is : P ≡ free_place k.free.first k.free.count) where
         abbrev zs : List Place
         zs = vec_items (with_items k.places ws)
 
         led_are : used_places zs ≡ led_places (linked_used k) b (next_at (linked_used k) p)
         led_are =
-            ap used_places (with_items_is k.places ws len ∙ ws-is ∙ ap (λ (qs : List Place). led_places qs b x.next) ys-is)
-            ∙ used_led (vec_items k.places) b x.next (λ q so. (used_in (vec_items k.places) q (before_in q so)).1)
-            ∙ ap (λ (y : Place). led_places (linked_used k) b y.next) read
+            ap used_places (with_items_is k.places ws len ∙ ws-is ∙ ap (λ (qs : List Place). led_places qs b (next_of x)) ys-is)
+            ∙ used_led (vec_items k.places) b (next_of x) (λ q so. (used_in (vec_items k.places) q (before_in q so)).1)
+            ∙ ap (λ (y : Place). led_places (linked_used k) b (next_of y)) read
 
-        places_are : used_places (set zs p P) ≡ set (led_places (linked_used k) b (next_at (linked_used k) p)) p (free_place k.free k.spare)
-        places_are = used_written zs p P ∙ ap₂ (λ (qs : List Place) (y : Place). set qs p y) led_are P-is
+        places_are : used_places (set zs r P) ≡ set (led_places (linked_used k) b (next_at (linked_used k) p)) p (free_place k.free.first k.free.count)
+        places_are =
+            ap (λ (q : ℕ). used_places (set zs q P)) r-is
+            ∙ used_written zs p P (used_in (vec_items k.places) p in_used).1
+            ∙ ap₂ (λ (qs : List Place) (y : Place). set qs p y) led_are P-is
 
-        cut : Cut (linked_used k) (used_places (set zs p P)) k.heads gs p k.free k.spare
+        cut : Cut (linked_used k) (used_places (set zs r P)) k.heads gs p k.free.first k.free.count
         cut =
-            subst (λ (ps : List Place). Cut (linked_used k) ps k.heads gs p k.free k.spare) (sym places_are)
-            (rw (gs-is, read) (cut_out (chain_of k) p k.free k.spare b (subst (After (linked_used k) k.heads e t b) is af) le))
+            subst (λ (ps : List Place). Cut (linked_used k) ps k.heads gs p k.free.first k.free.count) (sym places_are)
+            (rw (gs-is, read) (cut_out (chain_of k) p k.free.first k.free.count b (subst (After (linked_used k) k.heads e t b) is af) le))
 
-        pub out_kept : kept_in (used_places (set zs p P)) ≡ without (linked_kept k) e t
+        pub out_kept : kept_in (used_places (set zs r P)) ≡ without (linked_kept k) e t
         out_kept = cut_kept (sound_of k) of.0 cut ∙ ap₂ (λ (d u : ℕ). without (linked_kept k) d u) of.1 time_is
 
-        pub out_sound : Sound (used_places (set zs p P)) gs (Some p) (k.spare + 1) (k.held - 1)
+        pub out_sound : Sound (used_places (set zs r P)) gs (Some p) (k.free.count + 1) (k.held - 1)
         out_sound = cut_sound (sound_of k) of.0 cut (k.held - 1) (omega (arith, some_held))

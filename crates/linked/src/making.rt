@@ -6,21 +6,28 @@ ghost use Rattle.linked.specs.Chain.{AllFree, before};
 ghost use Rattle.linked.specs.View.{linked_kept, linked_places, linked_memory};
 
 use crate::keeper::Linked;
-use crate::place::Place;
+use crate::place::{FreePlaces, Place};
 use keepers::memory::MOST_PLACES;
 
-// Makes the first n places free, each leading to the one before it, and gives the last.
-fn free_first(places: &mut [Place], n: usize) -> Option<u16>
+// Makes the first n places free, each leading to the one before it, and gives them.
+fn free_first(places: &mut [Place], n: usize) -> FreePlaces
     requires inside { n ≤ length places.old }
     requires few { n ≤ most_places }
     ensures free { AllFree places.new n }
-    ensures first { result ≡ before n }
+    ensures first { result.first ≡ before n }
+    ensures count { result.count ≡ n }
     ensures rest { drop n places.new ≡ drop n places.old }
 {
-    let mut free: Option<u16> = None;
-    for i in 0..n {
-        places[i] = Place::freed(free, i as u32);
-        free = Some(i as u16);
+    let mut free = FreePlaces {
+        first: None,
+        count: 0,
+    };
+    for place in places[..n].iter_mut() {
+        *place = Place::freed(free);
+        free = FreePlaces {
+            first: Some(free.count as u16),
+            count: free.count + 1,
+        };
     }
     free
 }
@@ -48,7 +55,6 @@ impl Linked {
             places,
             heads: no_heads(),
             free,
-            spare: used as u32,
             held: 0,
         }
     }
@@ -61,7 +67,6 @@ impl Linked {
             places,
             heads: _,
             free: _,
-            spare: _,
             held: _,
         } = self;
         places

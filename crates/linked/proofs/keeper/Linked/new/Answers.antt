@@ -6,7 +6,7 @@ use Rattle.linked.proofs.keeper.Linked.new.Goals as goal
 pub invariant_of-result : goal.invariant_of-result
 invariant_of-result c =
     let free = c.free_first-free in
-    record { sound = ∣ made_sound c.args.memory free.new.places _ (search rules) (omega (arith, c.min-used.ensures)) free.ensures.free c.no_heads.ensures.len c.no_heads.ensures.bare free.ensures.first ∣₁ }
+    record { sound = ∣ made_sound c.args.memory free.new.places _ (search rules) (omega (arith, c.min-used.ensures)) free.ensures.free c.no_heads.ensures.len c.no_heads.ensures.bare free.ensures.first free.ensures.count ∣₁ }
 
 pub returns : goal.returns
 returns c =

@@ -7,4 +7,4 @@ pub index-requires : goal.index-requires
 index-requires c = omega (arith, (used_in (vec_items c.args.self.now.places) c.args.p c.requires).0)
 
 pub returns : goal.returns
-returns c = used_read (vec_items c.args.self.now.places) c.args.p _ c.requires c.index.ensures
+returns c = used_read (vec_items c.args.self.now.places) c.args.p _ c.requires (rw c.from.ensures at c.index.ensures)
