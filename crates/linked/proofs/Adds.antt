@@ -1,9 +1,11 @@
 -- A version put in the first free place, before the others of its entry.
 use Rattle.std.proofs.Common.{◌≡◌, ℕ, ◌+◌, ◌^◌, ◌<◌, ◌≤◌, ◌≢◌, List, get_or, set, Some, None, vec_items, Option, sym, refl, ap, ◌∙◌, subst, ap₂, inl, inr, arith}
+use Rattle.std.proofs.Math.Seq.{take-set-lt}
 use Rattle.std.proofs.lemmas.List.{get_or-set_same, get_or-set_other, length-set}
 use Rattle.std.proofs.lemmas.Bool.{cases_eq}
 use Rattle.cards.specs.Versions.{with_card, held_in}
 use Rattle.keepers.specs.Look.{holds}
+use Rattle.keepers.specs.Memory.{most_places}
 use Rattle.linked.specs.Chain.{held_place, empty_place, version_of, next_of, below_of, used_places, kept_in, time_at, entry_at, next_at, below_at, time_or_zero, OfEntry, Free, Chained, Freed, Sound}
 use Rattle.linked.specs.View.{linked_used, linked_kept}
 use Rattle.linked.specs.declared.keeper.Linked.{Linked}
@@ -14,7 +16,7 @@ use Rattle.keepers.proofs.Looks.{look_some, holds_not}
 use Rattle.linked.specs.Laws.{none_kept, sound_of}
 use Rattle.keepers.specs.declared.entry.EntryNumber.{EntryNumber}
 use Rattle.linked.proofs.Facts.{first_free, entry_below, newest}
-use Rattle.linked.proofs.Edits.{Like, time_like, entry_like, old_of, new_of, old_free, new_free, like_kept, like_set, used_in, used_written, Timed, held_timed}
+use Rattle.linked.proofs.Edits.{Like, time_like, entry_like, old_of, new_of, old_free, new_free, like_kept, like_set, used_in, Timed, held_timed}
 
 module _ {ps : List Place} {hs : List (Option ℕ)} {f : Option ℕ} {n h : ℕ} (s : Sound ps hs f n h) (p : ℕ) (v : Version) (is : f ≡ Some p) (le : v.entry < 1024) (lt : v.time < 2 ^ 32) (late : time_or_zero ps (get_or hs v.entry None) < v.time) where
   abbrev new : Place
@@ -141,7 +143,7 @@ module _ {ps : List Place} {hs : List (Option ℕ)} {f : Option ℕ} {n h : ℕ}
   head_none : (d : ℕ) → get_or hs' d None ≡ None → d < 1024 → (r : ℕ) → OfEntry ps' d r → ⊥
   head_none d x l r o =
       elim (cases_eq d v.entry) [
-        | inl y ↦ (let head = h_here d y in let z : ◌≡◌ {A = ℕ} 0 1 = cc in omega arith)
+        | inl y ↦ (let head = h_here d y in cc)
         | inr ne ↦ elim (cases_eq r p) [
           | inl z ↦ ne (sym o.1 ∙ e_here r z)
           | inr nr ↦ s.chained.head_none d (sym (h_other d ne) ∙ x) l r (old_of like d r nr o)
@@ -234,7 +236,7 @@ module _ (k : Linked) {w row at : ℕ} {P : Place} (p : ℕ) (v : Version) (e : 
   P-same = P-is ∙ ap (λ (d : ℕ). held_place (record { version = v; older = get_or k.heads d None })) (row-is ∙ same)
 
   written : used_places (set (vec_items k.places) at P) ≡ set (linked_used k) p placed
-  written = ap₂ (λ (a : ℕ) (x : Place). used_places (set (vec_items k.places) a x)) at-is P-same ∙ used_written (vec_items k.places) p placed (used_in (vec_items k.places) p (first_free k p is).0).1
+  written = ap₂ (λ (a : ℕ) (x : Place). used_places (set (vec_items k.places) a x)) at-is P-same ∙ take-set-lt most_places (vec_items k.places) p placed (used_in k p (first_free k p is).0).1
 
   pub placed_kept : kept_in (used_places (set (vec_items k.places) at P)) ≡ with_card (linked_kept k) v.entry v.time v.card
   placed_kept = ap kept_in written ∙ add_kept (sound_of k) p v is (entry_below k v e same) lt above_all

@@ -4,7 +4,9 @@ use Rattle.std.proofs.Common.{sym, ap, ◌∙◌, subst, arith}
 use Rattle.cards.specs.Versions.{newest_time}
 use Rattle.keepers.specs.Kept.{Newest, Follows}
 use Rattle.linked.specs.Chain.{empty_place, version_of, next_of, kept_in, time_at, next_at, time_or_zero, OfEntry, Chained, Sound, After}
-use Rattle.linked.specs.Laws.{none_kept}
+use Rattle.linked.specs.Laws.{none_kept, chain_of}
+use Rattle.linked.specs.View.{linked_used}
+use Rattle.linked.specs.declared.keeper.Linked.{Linked}
 use Rattle.linked.specs.declared.place.Place.{Place}
 use Rattle.cards.proofs.Newest.{newest_none, newest_is}
 use Rattle.keepers.proofs.Looks.{look_some, filled_in}
@@ -12,10 +14,6 @@ use Rattle.keepers.proofs.Looks.{look_some, filled_in}
 -- a place that holds a version is there
 pub in_places : (ps : List Place) (p : ℕ) → 0 < time_at ps p → p < length ps
 in_places ps p = filled_in version_of empty_place ps p refl
-
--- a walk that ends at a place ends at one that is not later
-pub met : (ps : List Place) {a : Option ℕ} (q t : ℕ) (x : Place) → a ≡ Some q → x ≡ slice_index_or ps q empty_place → (version_of x).time ≤ t → (p : ℕ) → a ≡ Some p → time_at ps p ≤ t
-met ps q t x at read l p is = let same : q ≡ p = cc in omega (arith, ap (time_at ps) same, ap (λ (y : Place). (version_of y).time) read)
 
 module _ {ps : List Place} {hs : List (Option ℕ)} (ch : Chained ps hs) where
   -- what a place holds is kept
@@ -52,7 +50,7 @@ module _ {ps : List Place} {hs : List (Option ℕ)} (ch : Chained ps hs) where
     -- one step on
     pub step : t < (version_of x).time → After ps hs e t (Some q) (next_of x)
     step l = record {
-      first = λ nil. absurd (let z : ◌≡◌ {A = ℕ} 0 1 = cc in omega arith);
+      first = λ nil. cc;
       later = λ r so.
           let same : q ≡ r = cc in
           subst (λ (k : ℕ). OfEntry ps e k × (t < time_at ps k) × (next_at ps k ≡ next_of x)) same
@@ -84,6 +82,10 @@ module _ {ps : List Place} {hs : List (Option ℕ)} (ch : Chained ps hs) where
       by : (n : Option ℕ) → a ≡ n → (r : ℕ) → OfEntry ps e r → t < time_at ps r → ⊥
       by None end r o lo = ch.head_none e (sym (af.first nil) ∙ end) le r o
       by (Some s) is r o lo = let k = (ch.head_some e s (sym (af.first nil) ∙ is)).1 r o in omega (arith, until s is)
+
+-- a place that a walk comes to holds a version
+pub at_version : (s : Linked) {e t : ℕ} {b a : Option ℕ} (q : ℕ) → After (linked_used s) s.heads e t b a → a ≡ Some q → 0 < time_at (linked_used s) q
+at_version s q af is = (at_place (chain_of s) q af is).0.0
 
 -- the head's time is the newest of its entry
 pub head_newest : {ps : List Place} {hs : List (Option ℕ)} {f : Option ℕ} {n h : ℕ} → Sound ps hs f n h → (e : ℕ) → e < 1024 → newest_time (kept_in ps) e ≡ time_or_zero ps (slice_index_or hs e None)

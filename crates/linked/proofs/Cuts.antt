@@ -1,6 +1,7 @@
 -- A version taken out of its chain, and its place put before the free ones.
 use Rattle.std.proofs.Common.{◌≡◌, ℕ, ◌+◌, ◌-◌, ◌<◌, ◌≤◌, true, ◌≢◌, ◌⊎◌, List, length, get_or, set, is_some, Some, None, vec_items, vec_len, Option, sym, refl, ap, ◌∙◌, subst, ap₂, inl, inr, arith}
 use Rattle.std.proofs.lemmas.List.{get_or-set_same, get_or-set_other, get_or-take, length-set, with_items_is}
+use Rattle.std.proofs.Math.Seq.{take-set-lt}
 use Rattle.std.proofs.lemmas.Bool.{cases_eq, cases_lt}
 use Rattle.std.specs.Vec.{with_items}
 use Rattle.cards.specs.Versions.{without, held_in}
@@ -13,7 +14,7 @@ use Rattle.cards.proofs.Counts.{held_less, without_here, without_other, same_set
 use Rattle.keepers.proofs.Looks.{holds_not}
 use Rattle.linked.proofs.Chains.{in_places, kept_at, at_place}
 use Rattle.linked.specs.Laws.{none_kept, sound_of, chain_of}
-use Rattle.linked.proofs.Edits.{Like, time_like, entry_like, old_of, new_of, old_free, new_free, like_kept, like_set, used_in, used_written, used_led, Timed, free_timed, led_version, led_below, led_timed, led_next}
+use Rattle.linked.proofs.Edits.{Like, time_like, entry_like, old_of, new_of, old_free, new_free, like_kept, like_set, used_in, used_led, Timed, free_timed, led_version, led_below, led_timed, led_next}
 
 -- with a version less, one less is held
 less_by : {ps : List Place} {hs : List (Option ℕ)} {f : Option ℕ} {n h : ℕ} → Sound ps hs f n h → (p : ℕ) → 0 < time_at ps p → h ≡ held_in (without (kept_in ps) (entry_at ps p) (time_at ps p)) + 1
@@ -214,7 +215,7 @@ module _ {ps ps' : List Place} {hs hs' : List (Option ℕ)} {f : Option ℕ} {n 
       ]
     ];
     first_some = λ q x. let y : q ≡ p = cc in ((omega (arith, y, cut.like.len, in_places ps p was), ap (time_at ps') y ∙ gone), omega (arith, b_here q y));
-    first_none = λ x. absurd (let z : ◌≡◌ {A = ℕ} 0 1 = cc in omega arith);
+    first_none = λ x. cc;
   }
 
   -- ---- the whole
@@ -332,7 +333,7 @@ module _ (k : Linked) {e t : ℕ} {b a : Option ℕ} (af : After (linked_used k)
 
   -- the place before it holds a version
   pub before_memory : {ys : List Place} → ys ≡ vec_items k.places → (q : ℕ) → b ≡ Some q → 0 < time_at ys q
-  before_memory is q so = rw is (omega (arith, ap (λ (x : Place). (version_of x).time) (get_or-take most_places (vec_items k.places) q empty_place (used_in (vec_items k.places) q (before_in q so)).1), (af.later q so).0.0))
+  before_memory is q so = rw is (omega (arith, ap (λ (x : Place). (version_of x).time) (get_or-take most_places (vec_items k.places) q empty_place (used_in k q (before_in q so)).1), (af.later q so).0.0))
 
   module _ (p : ℕ) (is : a ≡ Some p) where
     of : OfEntry (linked_used k) e p
@@ -359,13 +360,13 @@ module _ (k : Linked) {e t : ℕ} {b a : Option ℕ} (af : After (linked_used k)
         led_are : used_places zs ≡ led_places (linked_used k) b (next_at (linked_used k) p)
         led_are =
             ap used_places (with_items_is k.places ws len ∙ ws-is ∙ ap (λ (qs : List Place). led_places qs b (next_of x)) ys-is)
-            ∙ used_led (vec_items k.places) b (next_of x) (λ q so. (used_in (vec_items k.places) q (before_in q so)).1)
+            ∙ used_led (vec_items k.places) b (next_of x) (λ q so. (used_in k q (before_in q so)).1)
             ∙ ap (λ (y : Place). led_places (linked_used k) b (next_of y)) read
 
         places_are : used_places (set zs r P) ≡ set (led_places (linked_used k) b (next_at (linked_used k) p)) p (free_place k.free.first k.free.count)
         places_are =
             ap (λ (q : ℕ). used_places (set zs q P)) r-is
-            ∙ used_written zs p P (used_in (vec_items k.places) p in_used).1
+            ∙ take-set-lt most_places zs p P (used_in k p in_used).1
             ∙ ap₂ (λ (qs : List Place) (y : Place). set qs p y) led_are P-is
 
         cut : Cut (linked_used k) (used_places (set zs r P)) k.heads gs p k.free.first k.free.count

@@ -1,11 +1,13 @@
 -- Reading and writing memory of which only the first places are used, and what is left as it was.
-use Rattle.std.proofs.Common.{◌≡◌, ℕ, ◌<◌, ◌≢◌, List, length, get_or, set, Some, None, Option, sym, refl, ap, ◌∙◌, subst, inl, inr, arith}
+use Rattle.std.proofs.Common.{◌≡◌, ℕ, ◌<◌, ◌≢◌, List, length, get_or, set, Some, None, vec_items, Option, sym, refl, ap, ◌∙◌, subst, inl, inr, arith}
 use Rattle.std.proofs.Math.Seq.{take-set-lt}
 use Rattle.std.proofs.lemmas.List.{get_or-set_other, get_or-take, get_or_read, length-set, length-take}
 use Rattle.std.proofs.lemmas.Bool.{cases_eq}
 use Rattle.keepers.specs.Look.{holds}
 use Rattle.keepers.specs.Memory.{most_places}
 use Rattle.linked.specs.Chain.{held_place, free_place, empty_place, version_of, next_of, below_of, led_place, used_places, kept_in, time_at, entry_at, below_at, OfEntry, Free, led_places}
+use Rattle.linked.specs.View.{linked_used}
+use Rattle.linked.specs.declared.keeper.Linked.{Linked}
 use Rattle.linked.specs.declared.place.Place.{Place}
 use Rattle.linked.specs.declared.place.Link.{Link}
 use Rattle.linked.specs.declared.place.Content.TheVariants as content
@@ -14,22 +16,19 @@ use Rattle.keepers.proofs.Looks.{look_like}
 
 -- ---- the places that are used
 
--- a used place is in the memory, and its number has 16 bits
-pub used_in : (xs : List Place) (p : ℕ) → p < length (used_places xs) → (p < length xs) × (p < most_places)
-used_in xs p l = let k = length-take most_places xs in (omega arith, omega arith)
+module _ (s : Linked) (p : ℕ) (l : p < length (linked_used s)) where
+  -- a used place is in the memory, and its number has 16 bits
+  pub used_in : (p < length (vec_items s.places)) × (p < most_places)
+  used_in = let k = length-take most_places (vec_items s.places) in (omega arith, omega arith)
 
--- a used place, as it is read
-pub used_read : (xs : List Place) (p : ℕ) (x : Place) → p < length (used_places xs) → x ≡ get_or xs p x → x ≡ get_or (used_places xs) p empty_place
-used_read xs p x l is = let k = used_in xs p l in get_or_read xs p x k.0 is empty_place ∙ sym (get_or-take most_places xs p empty_place k.1)
-
--- a used place, as it is written
-pub used_written : (xs : List Place) (p : ℕ) (x : Place) → p < most_places → used_places (set xs p x) ≡ set (used_places xs) p x
-used_written xs p x l = take-set-lt most_places xs p x l
+  -- a used place, as it is read
+  pub used_read : (x : Place) → x ≡ get_or (vec_items s.places) p x → x ≡ get_or (linked_used s) p empty_place
+  used_read x is = get_or_read (vec_items s.places) p x used_in.0 is empty_place ∙ sym (get_or-take most_places (vec_items s.places) p empty_place used_in.1)
 
 -- a used place, as it is led on
 pub used_led : (xs : List Place) (b n : Option ℕ) → ((q : ℕ) → b ≡ Some q → q < most_places) → used_places (led_places xs b n) ≡ led_places (used_places xs) b n
 used_led xs None n l = refl
-used_led xs (Some q) n l = used_written xs q _ (l q refl) ∙ ap (λ (x : Place). set (used_places xs) q (led_place x n)) (sym (get_or-take most_places xs q empty_place (l q refl)))
+used_led xs (Some q) n l = take-set-lt most_places xs q _ (l q refl) ∙ ap (λ (x : Place). set (used_places xs) q (led_place x n)) (sym (get_or-take most_places xs q empty_place (l q refl)))
 
 -- ---- one place
 

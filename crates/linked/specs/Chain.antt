@@ -34,11 +34,11 @@ next_of p = elim p.content as (λ _. Option ℕ) [ content.Held l ↦ l.older | 
 abbrev pub below_of : Place → ℕ
 below_of p = elim p.content as (λ _. ℕ) [ content.Held _ ↦ 0 | content.Free others ↦ others.count ]
 
--- a place that holds a version leads on to n
+-- a place that holds a link leads on to n
 abbrev pub led_place : Place → Option ℕ → Place
 led_place p n = elim p.content as (λ _. Place) [ content.Held l ↦ held_place (record { version = l.version; older = n }) | content.Free _ ↦ p ]
 
--- ---- all places
+-- ---- the places together
 
 -- the places that are used of those in memory
 abbrev pub used_places : List Place → List Place

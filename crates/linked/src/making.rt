@@ -22,8 +22,9 @@ fn free_first(places: &mut [Place], n: usize) -> FreePlaces
         first: None,
         count: 0,
     };
-    for place in places[..n].iter_mut() {
+    for place in &mut places[..n] {
         *place = Place::freed(free);
+        // A place's number is how many places come before it, and all of those are free.
         free = FreePlaces {
             first: Some(free.count as u16),
             count: free.count + 1,
@@ -63,12 +64,6 @@ impl Linked {
     pub fn into_memory(self) -> Vec<Place>
         ensures { result ≡ linked_memory self }
     {
-        let Linked {
-            places,
-            heads: _,
-            free: _,
-            held: _,
-        } = self;
-        places
+        self.places
     }
 }

@@ -18,14 +18,14 @@ pub(crate) struct FreePlaces {
     pub(crate) count: u32,
 }
 
-// What a place holds: a link of its entry's chain, or no version, and then the places that are free besides this one.
+// What a place holds: a link of its entry's chain, or no version but the free places that come after it.
 #[derive(Clone, Copy)]
 pub(crate) enum Content {
     Held(Link),
     Free(FreePlaces),
 }
 
-// A place holds a version or is free.
+// A place of the memory. What is in it is the keeper's alone.
 #[derive(Clone, Copy)]
 pub struct Place {
     pub(crate) content: Content,

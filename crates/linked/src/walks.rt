@@ -1,10 +1,10 @@
-// Reading places, and the walk along the chain of an entry.
-ghost use Rattle.std.specs.Prelude.{◌≡◌, ℕ, ◌<◌, ◌≤◌, length, Some, None, slice_index_or};
-ghost use Rattle.linked.specs.Chain.{After, Free, empty_place, held_place, free_place, time_at, time_or_zero, led_places, led_heads};
+// The walk along the chain of an entry, and what leads to a place of it.
+ghost use Rattle.std.specs.Prelude.{◌≡◌, ℕ, ◌<◌, ◌≤◌, Some, None, slice_index_or};
+ghost use Rattle.linked.specs.Chain.{After, time_at, time_or_zero, led_places, led_heads};
 ghost use Rattle.linked.specs.View.{linked_used};
 
 use crate::keeper::Linked;
-use crate::place::{Content, FreePlaces, Link, Place};
+use crate::place::{Content, Place};
 use keepers::entry::EntryNumber;
 
 // Where a walk has come to: the last place that it has left, and the place that it stands at.
@@ -15,40 +15,11 @@ pub(crate) struct Reached {
 }
 
 impl Linked {
-    // A place that is used.
-    fn place_at(&self, p: u16) -> Place
-        requires { p < length (linked_used self.now) }
-        ensures { result ≡ slice_index_or (linked_used self.now) p empty_place }
-    {
-        self.places[usize::from(p)]
-    }
-
-    // The link in a place that holds a version.
-    pub(crate) fn link_at(&self, p: u16) -> Link
-        requires { 0 < time_at (linked_used self.now) p }
-        ensures { held_place result ≡ slice_index_or (linked_used self.now) p empty_place }
-    {
-        match self.place_at(p).content {
-            Content::Held(link) => link,
-            Content::Free(_) => unreachable!(),
-        }
-    }
-
-    // The places that are free besides a free one.
-    pub(crate) fn others_at(&self, p: u16) -> FreePlaces
-        requires { Free (linked_used self.now) p }
-        ensures { free_place result.first result.count ≡ slice_index_or (linked_used self.now) p empty_place }
-    {
-        match self.place_at(p).content {
-            Content::Held(_) => unreachable!(),
-            Content::Free(others) => others,
-        }
-    }
-
     // The time of an entry's newest version, 0 where it has none.
     pub(crate) fn head_time(&self, entry: EntryNumber) -> u32
         ensures { result ≡ time_or_zero (linked_used self.now) (slice_index_or self.now.heads entry.number None) }
     {
+        // A closure would have to ask, in a clause of its own, that the place holds a version.
         match self.heads[usize::from(entry)] {
             Some(p) => self.link_at(p).version.time,
             None => 0,

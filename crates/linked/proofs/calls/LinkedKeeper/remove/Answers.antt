@@ -1,9 +1,9 @@
 -- The walk ends at the version, which is cut out of its chain, or it is not there.
-use Rattle.std.proofs.Common.{is_some, vec_items, sym, refl, ap, arith, rules}
+use Rattle.std.proofs.Common.{is_some, sym, refl, ap, arith, rules}
 use Rattle.linked.specs.Chain.{version_of}
 use Rattle.linked.specs.declared.place.Place.{Place}
 use Rattle.cards.proofs.Counts.{without_none}
-use Rattle.linked.proofs.Chains.{at_place, at_end, found}
+use Rattle.linked.proofs.Chains.{at_version, at_end, found}
 use Rattle.linked.specs.Laws.{none_past, chain_of}
 use Rattle.linked.proofs.Edits.{used_in}
 use Rattle.linked.proofs.Cuts.{before_memory, in_used, out_found, some_held, out_kept, out_sound}
@@ -21,7 +21,7 @@ returns-in_default-at c =
     record { answer = sym (ap is_some z); kept = without_none _ _ _ z; places = refl; same = λ _. refl }
 
 pub link_at-link-requires : goal.link_at-link-requires
-link_at-link-requires c = (at_place (chain_of c.args.self.now) _ c.walk-reached.ensures.after c.in-Some.is).0.0
+link_at-link-requires c = at_version c.args.self.now _ c.walk-reached.ensures.after c.in-Some.is
 
 pub returns-then-link-time : goal.returns-then-link-time
 returns-then-link-time c =
@@ -33,7 +33,7 @@ pub unlink-requires : goal.unlink-requires
 unlink-requires c = before_memory c.args.self.now c.walk-reached.ensures.after c.as_mut_slice.ensures.value
 
 pub index_mut-requires : goal.index_mut-requires
-index_mut-requires c = omega (arith, (used_in (vec_items c.args.self.now.places) _ (in_used c.args.self.now c.walk-reached.ensures.after _ c.in-Some.is)).0)
+index_mut-requires c = omega (arith, (used_in c.args.self.now _ (in_used c.args.self.now c.walk-reached.ensures.after _ c.in-Some.is)).0)
 
 pub overflow_add-self : goal.overflow_add-self
 overflow_add-self c = omega (arith, few_places c.args.self.now)
@@ -44,10 +44,8 @@ overflow_sub-self c = some_held c.args.self.now c.walk-reached.ensures.after _ c
 pub invariant_of-self : goal.invariant_of-self
 invariant_of-self c = record { sound = ∣ out_sound c.args.self.now c.walk-reached.ensures.after c.in-Some.p c.in-Some.is c.link_at-link.ensures c.if-link-time.false c.in-Ok.entry.below c.as_mut_slice.ensures.value c.unlink.ensures.places c.unlink.ensures.heads (search rules) c.from.ensures c.freed.ensures ∣₁ }
 
-pub returns : goal.returns
-returns c = record {
-  answer = rw (← c.in-Ok.ensures) (sym (out_found c.args.self.now c.walk-reached.ensures.after c.in-Some.p c.in-Some.is c.link_at-link.ensures c.if-link-time.false));
-  kept = rw (← c.in-Ok.ensures) (out_kept c.args.self.now c.walk-reached.ensures.after c.in-Some.p c.in-Some.is c.link_at-link.ensures c.if-link-time.false c.in-Ok.entry.below c.as_mut_slice.ensures.value c.unlink.ensures.places c.unlink.ensures.heads (search rules) c.from.ensures c.freed.ensures);
-  places = refl;
-  same = λ never. absurd (cc never);
-}
+pub returns-clause-answer : goal.returns-clause-answer
+returns-clause-answer c = rw (← c.in-Ok.ensures) (sym (out_found c.args.self.now c.walk-reached.ensures.after c.in-Some.p c.in-Some.is c.link_at-link.ensures c.if-link-time.false))
+
+pub returns-clause-kept : goal.returns-clause-kept
+returns-clause-kept c = rw (← c.in-Ok.ensures) (out_kept c.args.self.now c.walk-reached.ensures.after c.in-Some.p c.in-Some.is c.link_at-link.ensures c.if-link-time.false c.in-Ok.entry.below c.as_mut_slice.ensures.value c.unlink.ensures.places c.unlink.ensures.heads (search rules) c.from.ensures c.freed.ensures)
