@@ -5,7 +5,7 @@ ghost use Rattle.keepers.specs.Memory.{most_places, used_of};
 ghost use Rattle.linked.specs.Chain.{AllFree, before};
 ghost use Rattle.linked.specs.View.{linked_kept, linked_places, linked_memory};
 
-use crate::keeper::Linked;
+use crate::keeper::{Heads, Linked};
 use crate::place::{FreePlaces, Place};
 use keepers::memory::MOST_PLACES;
 
@@ -34,7 +34,7 @@ fn free_first(places: &mut [Place], n: usize) -> FreePlaces
 }
 
 // No entry has a version.
-fn no_heads() -> [Option<u16>; 1024]
+fn no_heads() -> Heads
     ensures bare { (e : ℕ) → slice_index_or result e None ≡ None }
     ensures len { length result ≡ 1024 }
 {

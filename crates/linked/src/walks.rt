@@ -3,7 +3,7 @@ ghost use Rattle.std.specs.Prelude.{◌≡◌, ℕ, ◌<◌, ◌≤◌, Some, No
 ghost use Rattle.linked.specs.Chain.{After, time_at, time_or_zero, led_places, led_heads};
 ghost use Rattle.linked.specs.View.{linked_used};
 
-use crate::keeper::Linked;
+use crate::keeper::{Heads, Linked};
 use crate::place::{Content, Place};
 use keepers::entry::EntryNumber;
 
@@ -52,7 +52,7 @@ impl Linked {
 // Lets what leads to a place of a chain, the place before it or the entry's head, lead on to the next.
 pub(crate) fn unlink(
     places: &mut [Place],
-    heads: &mut [Option<u16>; 1024],
+    heads: &mut Heads,
     entry: EntryNumber,
     before: Option<u16>,
     next: Option<u16>,
