@@ -142,13 +142,12 @@ module _ {ps : List Place} {hs : List (Option ℕ)} {f : Option ℕ} {n h : ℕ}
 
   head_none : (d : ℕ) → get_or hs' d None ≡ None → d < 1024 → (r : ℕ) → OfEntry ps' d r → ⊥
   head_none d x l r o =
-      elim (cases_eq d v.entry) [
-        | inl y ↦ (let head = h_here d y in cc)
-        | inr ne ↦ elim (cases_eq r p) [
-          | inl z ↦ ne (sym o.1 ∙ e_here r z)
-          | inr nr ↦ s.chained.head_none d (sym (h_other d ne) ∙ x) l r (old_of like d r nr o)
-        ]
-      ]
+      let here = h_here d in
+      let other = h_other d in
+      let new = e_here r in
+      let old = old_of like d r in
+      let none = s.chained.head_none d in
+      grind arith
 
   chained : Chained ps' hs'
   chained = record {

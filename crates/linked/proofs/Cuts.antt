@@ -247,14 +247,10 @@ module _ {ps : List Place} {hs : List (Option ℕ)} (ch : Chained ps hs) (p : �
   only b r lb x lr y =
       let nb = ch.next_some b p lb x in
       let nr = ch.next_some r p lr y in
-      let same : entry_at ps r ≡ entry_at ps b = sym nr.0.1 ∙ nb.0.1 in
-      elim (cases_eq (time_at ps r) (time_at ps b)) [
-        | inl q ↦ ch.once r b lr same q
-        | inr ne ↦ elim (cases_lt (time_at ps r) (time_at ps b)) [
-          | inl lt ↦ absurd (omega (arith, nb.2 r (lr, same) lt, nr.1))
-          | inr ge ↦ absurd (omega (arith, nr.2 b (lb, sym same) (omega (arith, ne)), nb.1))
-        ]
-      ]
+      let older = nb.2 r in
+      let newer = nr.2 b in
+      let same = ch.once r b lr in
+      grind arith
 
   abbrev led : ℕ → Place
   led b = led_place (get_or ps b empty_place) (next_at ps p)

@@ -10,7 +10,6 @@ use Rattle.linked.specs.View.{linked_used}
 use Rattle.linked.specs.declared.keeper.Linked.{Linked}
 use Rattle.linked.specs.declared.place.Place.{Place}
 use Rattle.linked.specs.declared.place.Link.{Link}
-use Rattle.linked.specs.declared.place.Content.TheVariants as content
 use Rattle.keepers.specs.declared.version.Version.{Version}
 use Rattle.keepers.proofs.Looks.{look_like}
 
@@ -44,16 +43,16 @@ free_timed f n l e = cc (ap (λ (x : Place). x.content) e)
 
 -- led on, a place is as it was but for its next
 pub led_version : (x : Place) (n : Option ℕ) → version_of (led_place x n) ≡ version_of x
-led_version x n = elim x.content as (λ c. version_of (led_place (record { content = c }) n) ≡ version_of (record { content = c })) [ content.Held _ ↦ refl | content.Free _ ↦ refl ]
+led_version x n = grind arith
 
 pub led_below : (x : Place) (n : Option ℕ) → below_of (led_place x n) ≡ below_of x
-led_below x n = elim x.content as (λ c. below_of (led_place (record { content = c }) n) ≡ below_of (record { content = c })) [ content.Held _ ↦ refl | content.Free _ ↦ refl ]
+led_below x n = grind arith
 
 pub led_timed : (x : Place) (n : Option ℕ) → Timed x → Timed (led_place x n)
-led_timed x n = elim x.content as (λ c. Timed (record { content = c }) → Timed (led_place (record { content = c }) n)) [ content.Held l ↦ λ t. held_timed (record { version = l.version; older = n }) (t l refl) | content.Free _ ↦ λ t. t ]
+led_timed x n t l e = let u = t (record { version = l.version; older = next_of x }) in grind arith
 
 pub led_next : (x : Place) (n : Option ℕ) → 0 < (version_of x).time → next_of (led_place x n) ≡ n
-led_next x n = elim x.content as (λ c. 0 < (version_of (record { content = c })).time → next_of (led_place (record { content = c }) n) ≡ n) [ content.Held _ ↦ λ _. refl | content.Free _ ↦ λ l. absurd (omega arith) ]
+led_next x n = grind arith
 
 -- ---- all places but one
 

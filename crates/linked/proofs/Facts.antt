@@ -5,12 +5,11 @@ use Rattle.cards.specs.Versions.{room, newest_time}
 use Rattle.cards.specs.declared.refusal.Refusal.TheVariants.{Full, Order}
 use Rattle.keepers.specs.Kept.{add_refusal}
 use Rattle.keepers.specs.Memory.{most_places}
-use Rattle.linked.specs.Chain.{Free, empty_place, held_place, version_of, time_or_zero}
+use Rattle.linked.specs.Chain.{Free, empty_place, time_or_zero}
 use Rattle.linked.specs.View.{linked_used, linked_kept, linked_places}
 use Rattle.linked.specs.declared.keeper.Linked.{Linked}
 use Rattle.linked.specs.declared.place.Place.{Place}
 use Rattle.linked.specs.declared.place.Link.{Link}
-use Rattle.linked.specs.declared.place.Content.{Content}
 use Rattle.linked.specs.declared.place.Content.TheVariants as content
 use Rattle.keepers.specs.declared.entry.EntryNumber.{EntryNumber}
 use Rattle.keepers.specs.declared.version.Version.{Version}
@@ -32,9 +31,7 @@ module _ (s : Linked) where
 
   -- and holds no version
   pub holds_none : (p : ℕ) (x : Place) (l : Link) → Free (linked_used s) p → x ≡ slice_index_or (linked_used s) p empty_place → x.content ≡ content.Held l → ⊥
-  holds_none p x l o read is =
-      let held : x ≡ held_place l = ap (λ (c : Content). record { content = c }) is in
-      omega (arith, o.1, (sound_of s).timed p l (sym read ∙ held), ap (λ (y : Place). (version_of y).time) read, ap (λ (y : Place). (version_of y).time) held)
+  holds_none p x l o read is = let t = (sound_of s).timed p l in grind arith
 
   -- ---- why a version is declined, or that it is taken: e is its entry's number
 
