@@ -2,10 +2,10 @@
 use Rattle.std.proofs.Common.{◌≡◌, ℕ, ◌+◌, ◌-◌, ◌<◌, ◌≤◌, true, ◌≢◌, ◌⊎◌, List, length, get_or, set, is_some, Some, None, vec_items, vec_len, Option, sym, refl, ap, ◌∙◌, subst, ap₂, inl, inr, arith}
 use Rattle.std.proofs.lemmas.List.{get_or-set_same, get_or-set_other, get_or-take, length-set, with_items_is}
 use Rattle.std.proofs.Math.Seq.{take-set-lt}
-use Rattle.std.proofs.lemmas.Bool.{cases_eq, cases_lt}
+use Rattle.std.proofs.lemmas.Bool.{cases_eq}
 use Rattle.std.specs.Vec.{with_items}
 use Rattle.cards.specs.Versions.{without, held_in}
-use Rattle.linked.specs.Chain.{empty_place, free_place, version_of, next_of, below_of, led_place, used_places, kept_in, time_at, entry_at, next_at, below_at, OfEntry, Free, Chained, Freed, Sound, After, led_places, led_heads}
+use Rattle.linked.specs.Chain.{empty_place, free_place, version_of, next_of, below_of, led_place, used_places, kept_in, time_at, entry_at, next_at, below_at, OfEntry, Chained, Freed, Sound, After, led_places, led_heads}
 use Rattle.keepers.specs.Memory.{most_places}
 use Rattle.linked.specs.View.{linked_used, linked_kept}
 use Rattle.linked.specs.declared.keeper.Linked.{Linked}
@@ -14,7 +14,7 @@ use Rattle.cards.proofs.Counts.{held_less, without_here, without_other, same_set
 use Rattle.keepers.proofs.Looks.{holds_not}
 use Rattle.linked.proofs.Chains.{in_places, kept_at, at_place}
 use Rattle.linked.specs.Laws.{none_kept, sound_of, chain_of}
-use Rattle.linked.proofs.Edits.{Like, time_like, entry_like, old_of, new_of, old_free, new_free, like_kept, like_set, used_in, used_led, Timed, free_timed, led_version, led_below, led_timed, led_next}
+use Rattle.linked.proofs.Edits.{Like, alike, like_kept, like_set, used_in, used_led, Timed, free_timed, led_version, led_below, led_timed, led_next}
 
 -- with a version less, one less is held
 less_by : {ps : List Place} {hs : List (Option ℕ)} {f : Option ℕ} {n h : ℕ} → Sound ps hs f n h → (p : ℕ) → 0 < time_at ps p → h ≡ held_in (without (kept_in ps) (entry_at ps p) (time_at ps p)) + 1
@@ -37,124 +37,81 @@ module _ {ps ps' : List Place} {hs hs' : List (Option ℕ)} {f : Option ℕ} {n 
   ch : Chained ps hs
   ch = s.chained
 
-  gone : time_at ps' p ≡ 0
-  gone = ap (λ (x : Place). (version_of x).time) cut.here
+  at_p : (r : ℕ) → r ≡ p → get_or ps' r empty_place ≡ free_place f n
+  at_p r q = ap (λ (k : ℕ). get_or ps' k empty_place) q ∙ cut.here
 
-  t_same : (r : ℕ) → r ≢ p → time_at ps' r ≡ time_at ps r
-  t_same = time_like cut.like
-
-  e_same : (r : ℕ) → r ≢ p → entry_at ps' r ≡ entry_at ps r
-  e_same = entry_like cut.like
-
-  not_p : (r : ℕ) → 0 < time_at ps' r → r ≢ p
-  not_p r l q = omega (arith, ap (time_at ps') q, gone)
-
-  was_filled : (r : ℕ) → 0 < time_at ps' r → 0 < time_at ps r
-  was_filled r l = omega (arith, t_same r (not_p r l))
-
-  was_of : (d r : ℕ) → OfEntry ps' d r → OfEntry ps d r
-  was_of d r o = old_of cut.like d r (not_p r o.0) o
-
-  -- of the entry that a leads on in
-  was_in : (a r : ℕ) → a ≢ p → OfEntry ps' (entry_at ps' a) r → OfEntry ps (entry_at ps a) r
-  was_in a r na o = was_of (entry_at ps a) r (o.0, o.1 ∙ e_same a na)
-
-  -- another place of p's entry has another time
-  other_time : (r : ℕ) → r ≢ p → OfEntry ps (entry_at ps p) r → time_at ps r ≡ time_at ps p → ⊥
-  other_time r ne o q = ne (ch.once r p o.0 o.1 q)
+  -- what is at a place now
+  at : (r : ℕ) → ((r ≡ p) × (time_at ps' r ≡ 0) × (next_at ps' r ≡ f) × (below_at ps' r ≡ n)) ⊎ ((r ≢ p) × ((time_at ps' r ≡ time_at ps r) × (entry_at ps' r ≡ entry_at ps r) × (below_at ps' r ≡ below_at ps r)))
+  at r = elim (cases_eq r p) [
+    | inl q ↦ inl (q, ap (λ (x : Place). (version_of x).time) (at_p r q), ap next_of (at_p r q), ap below_of (at_p r q))
+    | inr ne ↦ inr (ne, alike cut.like r ne)
+  ]
 
   -- ---- the chains
 
   next_some : (a b : ℕ) → 0 < time_at ps' a → next_at ps' a ≡ Some b → OfEntry ps' (entry_at ps' a) b × (time_at ps' b < time_at ps' a) × ((r : ℕ) → OfEntry ps' (entry_at ps' a) r → time_at ps' r < time_at ps' a → time_at ps' r ≤ time_at ps' b)
   next_some a b l x =
-      let na = not_p a l in
-      let wa = was_filled a l in
-      elim (cut.n_cut a na wa) [
-        | inl k ↦
-            (let old = ch.next_some a b wa (sym k.1 ∙ x) in
-            let nb : b ≢ p = λ q. k.0 (sym k.1 ∙ x ∙ ap Some q) in
-            let o = new_of cut.like (entry_at ps a) b nb old.0 in (
-              (o.0, o.1 ∙ sym (e_same a na)),
-              omega (arith, t_same a na, t_same b nb, old.1),
-              λ r w y. let nr = not_p r w.0 in omega (arith, t_same r nr, t_same b nb, old.2 r (was_in a r na w) (omega (arith, t_same r nr, t_same a na))),
-            ))
-        | inr k ↦
-            (let one = ch.next_some a p wa k.0 in
-            let two = ch.next_some p b was (sym k.1 ∙ x) in
-            let nb : b ≢ p = λ q. omega (arith, ap (time_at ps) q, two.1) in
-            let o = new_of cut.like (entry_at ps p) b nb two.0 in (
-              (o.0, o.1 ∙ one.0.1 ∙ sym (e_same a na)),
-              omega (arith, t_same a na, t_same b nb, one.1, two.1),
-              λ r w y.
-                  let nr = not_p r w.0 in
-                  let ro = was_in a r na w in
-                  let up = one.2 r ro (omega (arith, t_same r nr, t_same a na)) in
-                  let rp : OfEntry ps (entry_at ps p) r = (ro.0, ro.1 ∙ sym one.0.1) in
-                  let nt : time_at ps r ≢ time_at ps p = other_time r nr rp in
-                  omega (arith, t_same r nr, t_same b nb, two.2 r rp (omega (arith, up, nt))),
-            ))
-      ]
+      let at_a = at a in
+      let at_b = at b in
+      let passed = cut.n_cut a in
+      let old = ch.next_some a b in
+      let one = ch.next_some a p in
+      let two = ch.next_some p b was in (
+        (grind arith, grind arith),
+        grind arith,
+        λ r o y.
+            let at_r = at r in
+            let once = ch.once r p in
+            let old_r = λ (w : 0 < time_at ps a) (e : next_at ps a ≡ Some b). (old w e).2 r in
+            let one_r = λ (w : 0 < time_at ps a) (e : next_at ps a ≡ Some p). (one w e).2 r in
+            let two_r = λ (e : next_at ps p ≡ Some b). (two e).2 r in
+            grind arith,
+      )
 
   next_none : (a : ℕ) → 0 < time_at ps' a → next_at ps' a ≡ None → (r : ℕ) → OfEntry ps' (entry_at ps' a) r → time_at ps' a ≤ time_at ps' r
-  next_none a l x r w =
-      let na = not_p a l in
-      let nr = not_p r w.0 in
-      let wa = was_filled a l in
-      let ro = was_in a r na w in
-      elim (cut.n_cut a na wa) [
-        | inl k ↦ omega (arith, t_same a na, t_same r nr, ch.next_none a wa (sym k.1 ∙ x) r ro)
-        | inr k ↦
-            (let one = ch.next_some a p wa k.0 in
-            let rp : OfEntry ps (entry_at ps p) r = (ro.0, ro.1 ∙ sym one.0.1) in
-            let lo = ch.next_none p was (sym k.1 ∙ x) r rp in
-            elim (cases_lt (time_at ps r) (time_at ps a)) [
-              | inl lt ↦ absurd (let up = one.2 r ro lt in other_time r nr rp (omega arith))
-              | inr ge ↦ omega (arith, t_same a na, t_same r nr)
-            ])
-      ]
+  next_none a l x r o =
+      let at_a = at a in
+      let at_r = at r in
+      let passed = cut.n_cut a in
+      let once = ch.once r p in
+      let old = ch.next_none a in
+      let one = ch.next_some a p in
+      let one_r = λ (w : 0 < time_at ps a) (e : next_at ps a ≡ Some p). (one w e).2 r in
+      let two = ch.next_none p was in
+      grind arith
 
   head_some : (d q : ℕ) → get_or hs' d None ≡ Some q → OfEntry ps' d q × ((r : ℕ) → OfEntry ps' d r → time_at ps' r ≤ time_at ps' q)
   head_some d q x =
-      elim (cut.h_cut d) [
-        | inl k ↦
-            (let old = ch.head_some d q (sym k.1 ∙ x) in
-            let nq : q ≢ p = λ y. k.0 (sym k.1 ∙ x ∙ ap Some y) in
-            (new_of cut.like d q nq old.0, λ r w. let nr = not_p r w.0 in omega (arith, t_same r nr, t_same q nq, old.1 r (was_of d r w))))
-        | inr k ↦
-            (let one = ch.head_some d p k.0 in
-            let two = ch.next_some p q was (sym k.1 ∙ x) in
-            let nq : q ≢ p = λ y. omega (arith, ap (time_at ps) y, two.1) in
-            let o = new_of cut.like (entry_at ps p) q nq two.0 in (
-              (o.0, o.1 ∙ one.0.1),
-              λ r w.
-                  let nr = not_p r w.0 in
-                  let ro = was_of d r w in
-                  let rp : OfEntry ps (entry_at ps p) r = (ro.0, ro.1 ∙ sym one.0.1) in
-                  let nt : time_at ps r ≢ time_at ps p = other_time r nr rp in
-                  omega (arith, t_same r nr, t_same q nq, two.2 r rp (omega (arith, one.1 r ro, nt))),
-            ))
-      ]
+      let at_q = at q in
+      let passed = cut.h_cut d in
+      let old = ch.head_some d q in
+      let one = ch.head_some d p in
+      let two = ch.next_some p q was in (
+        (grind arith, grind arith),
+        λ r o.
+            let at_r = at r in
+            let once = ch.once r p in
+            let old_r = λ (e : get_or hs d None ≡ Some q). (old e).1 r in
+            let one_r = λ (e : get_or hs d None ≡ Some p). (one e).1 r in
+            let two_r = λ (e : next_at ps p ≡ Some q). (two e).2 r in
+            grind arith,
+      )
 
   head_none : (d : ℕ) → get_or hs' d None ≡ None → d < 1024 → (r : ℕ) → OfEntry ps' d r → ⊥
-  head_none d x l r w =
-      let ro = was_of d r w in
-      elim (cut.h_cut d) [
-        | inl k ↦ ch.head_none d (sym k.1 ∙ x) l r ro
-        | inr k ↦
-            (let one = ch.head_some d p k.0 in
-            let rp : OfEntry ps (entry_at ps p) r = (ro.0, ro.1 ∙ sym one.0.1) in
-            let lo = ch.next_none p was (sym k.1 ∙ x) r rp in
-            let up = one.1 r ro in
-            other_time r (not_p r w.0) rp (omega arith))
-      ]
+  head_none d x l r o =
+      let at_r = at r in
+      let passed = cut.h_cut d in
+      let once = ch.once r p in
+      let old = ch.head_none d in
+      let one = ch.head_some d p in
+      let one_r = λ (e : get_or hs d None ≡ Some p). (one e).1 r in
+      let two = ch.next_none p was in
+      grind arith
 
   chained : Chained ps' hs'
   chained = record {
-    entries = λ r l. omega (arith, e_same r (not_p r l), ch.entries r (was_filled r l));
-    once = λ a b l x y.
-        let na = not_p a l in
-        let nb : b ≢ p = not_p b (omega arith) in
-        ch.once a b (was_filled a l) (sym (e_same a na) ∙ x ∙ e_same b nb) (sym (t_same a na) ∙ y ∙ t_same b nb);
+    entries = λ r l. let at_r = at r in let old = ch.entries r in grind arith;
+    once = λ a b l x y. let at_a = at a in let at_b = at b in let old = ch.once a b in grind arith;
     next_some = next_some;
     next_none = next_none;
     head_some = head_some;
@@ -164,57 +121,20 @@ module _ {ps ps' : List Place} {hs hs' : List (Option ℕ)} {f : Option ℕ} {n 
 
   -- ---- the free places
 
-  free_apart : (r : ℕ) → Free ps r → r ≢ p
-  free_apart r o q = omega (arith, ap (time_at ps) q, o.1)
-
-  still_free : (r : ℕ) → Free ps r → Free ps' r
-  still_free r o = new_free cut.like r (free_apart r o) o
-
-  was_free : (r : ℕ) → r ≢ p → Free ps' r → Free ps r
-  was_free = old_free cut.like
-
-  b_same : (r : ℕ) → r ≢ p → below_at ps' r ≡ below_at ps r
-  b_same = cut.like.below
-
-  -- p has all the others below it
-  b_here : (r : ℕ) → r ≡ p → below_at ps' r ≡ n
-  b_here r q = ap (below_at ps') q ∙ ap below_of cut.here
-
-  n_here : (r : ℕ) → r ≡ p → next_at ps' r ≡ f
-  n_here r q = ap (next_at ps') q ∙ ap next_of cut.here
-
-  n_same : (r : ℕ) (ne : r ≢ p) → Free ps' r → next_at ps' r ≡ next_at ps r
-  n_same r ne o = cut.f_same r ne (was_free r ne o).1
-
   freed : Freed ps' (Some p) (n + 1)
   freed = record {
-    next_some = λ a b o x. elim (cases_eq a p) [
-      | inl q ↦
-          (let old = s.freed.first_some b (sym (n_here a q) ∙ x) in
-          (still_free b old.0, omega (arith, b_same b (free_apart b old.0), old.1, b_here a q)))
-      | inr na ↦
-          (let old = s.freed.next_some a b (was_free a na o) (sym (n_same a na o) ∙ x) in
-          (still_free b old.0, omega (arith, b_same a na, b_same b (free_apart b old.0), old.1)))
-    ];
-    next_none = λ a o x. elim (cases_eq a p) [
-      | inl q ↦ b_here a q ∙ s.freed.first_none (sym (n_here a q) ∙ x)
-      | inr na ↦ b_same a na ∙ s.freed.next_none a (was_free a na o) (sym (n_same a na o) ∙ x)
-    ];
-    under = λ a o. elim (cases_eq a p) [
-      | inl q ↦ omega (arith, b_here a q)
-      | inr na ↦ omega (arith, b_same a na, s.freed.under a (was_free a na o))
-    ];
-    once = λ a b o w x. elim (cases_eq a p) [
-      | inl q ↦ elim (cases_eq b p) [
-        | inl v ↦ q ∙ sym v
-        | inr nb ↦ absurd (omega (arith, b_here a q, b_same b nb, s.freed.under b (was_free b nb w)))
-      ]
-      | inr na ↦ elim (cases_eq b p) [
-        | inl v ↦ absurd (omega (arith, b_here b v, b_same a na, s.freed.under a (was_free a na o)))
-        | inr nb ↦ s.freed.once a b (was_free a na o) (was_free b nb w) (sym (b_same a na) ∙ x ∙ b_same b nb)
-      ]
-    ];
-    first_some = λ q x. let y : q ≡ p = cc in ((omega (arith, y, cut.like.len, in_places ps p was), ap (time_at ps') y ∙ gone), omega (arith, b_here q y));
+    next_some = λ a b o x.
+        let at_a = at a in
+        let at_b = at b in
+        let len = cut.like.len in
+        let same = cut.f_same a in
+        let first = s.freed.first_some b in
+        let old = s.freed.next_some a b in
+        ((grind arith, grind arith), grind arith);
+    next_none = λ a o x. let at_a = at a in let len = cut.like.len in let same = cut.f_same a in let none = s.freed.first_none in let old = s.freed.next_none a in grind arith;
+    under = λ a o. let at_a = at a in let len = cut.like.len in let old = s.freed.under a in grind arith;
+    once = λ a b o w x. let at_a = at a in let at_b = at b in let len = cut.like.len in let under_a = s.freed.under a in let under_b = s.freed.under b in let old = s.freed.once a b in grind arith;
+    first_some = λ q x. let at_q = at q in let len = cut.like.len in let there = in_places ps p was in ((grind arith, grind arith), grind arith);
     first_none = λ x. cc;
   }
 
@@ -223,10 +143,10 @@ module _ {ps ps' : List Place} {hs hs' : List (Option ℕ)} {f : Option ℕ} {n 
   cut_kept : kept_in ps' ≡ without (kept_in ps) (entry_at ps p) (time_at ps p)
   cut_kept =
       same_set _ _ (entry_at ps p) (time_at ps p)
-      (none_kept ps' (entry_at ps p) (time_at ps p) (λ r o w. let nr = not_p r o.0 in other_time r nr (was_of (entry_at ps p) r o) (sym (t_same r nr) ∙ w))
+      (none_kept ps' (entry_at ps p) (time_at ps p) (λ r o w. let at_r = at r in let once = ch.once r p in grind arith)
       ∙ sym (without_here (kept_in ps) (entry_at ps p) (time_at ps p)))
       (λ d u ne.
-      like_kept cut.like d u (holds_not (version_of (get_or ps' p empty_place)) d u (λ l x y. omega (arith, gone)) ∙ sym (holds_not (version_of (get_or ps p empty_place)) d u (λ l x y. ne (sym x) (sym y))))
+      like_kept cut.like d u (holds_not (version_of (get_or ps' p empty_place)) d u (λ l x y. omega (arith, ap (λ (x : Place). (version_of x).time) cut.here)) ∙ sym (holds_not (version_of (get_or ps p empty_place)) d u (λ l x y. ne (sym x) (sym y))))
       ∙ sym (without_other (kept_in ps) (entry_at ps p) (time_at ps p) d u ne))
 
   cut_sound : (k : ℕ) → h ≡ k + 1 → Sound ps' hs' (Some p) (n + 1) k
@@ -235,8 +155,8 @@ module _ {ps ps' : List Place} {hs hs' : List (Option ℕ)} {f : Option ℕ} {n 
     freed = freed;
     counted = omega (arith, less_by s p was, ap held_in cut_kept);
     total = omega (arith, cut.like.len, s.total);
-    times = λ r. elim (cases_eq r p) [ inl q ↦ omega (arith, ap (time_at ps') q, gone) | inr ne ↦ omega (arith, t_same r ne, s.times r) ];
-    timed = λ r. elim (cases_eq r p) [ inl q ↦ subst Timed (sym (ap (λ (k : ℕ). get_or ps' k empty_place) q ∙ cut.here)) (free_timed f n) | inr ne ↦ cut.like.timed r ne (s.timed r) ];
+    times = λ r. let at_r = at r in let old = s.times r in grind arith;
+    timed = λ r. elim (cases_eq r p) [ inl q ↦ subst Timed (sym (at_p r q)) (free_timed f n) | inr ne ↦ cut.like.timed r ne (s.timed r) ];
   }
 
 -- ---- the two ways to cut: p is its entry's newest, or the place b leads to it

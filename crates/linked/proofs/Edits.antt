@@ -5,7 +5,7 @@ use Rattle.std.proofs.lemmas.List.{get_or-set_other, get_or-take, get_or_read, l
 use Rattle.std.proofs.lemmas.Bool.{cases_eq}
 use Rattle.keepers.specs.Look.{holds}
 use Rattle.keepers.specs.Memory.{most_places}
-use Rattle.linked.specs.Chain.{held_place, free_place, empty_place, version_of, next_of, below_of, led_place, used_places, kept_in, time_at, entry_at, below_at, OfEntry, Free, led_places}
+use Rattle.linked.specs.Chain.{held_place, free_place, empty_place, version_of, next_of, below_of, led_place, used_places, kept_in, time_at, entry_at, below_at, led_places}
 use Rattle.linked.specs.View.{linked_used}
 use Rattle.linked.specs.declared.keeper.Linked.{Linked}
 use Rattle.linked.specs.declared.place.Place.{Place}
@@ -64,23 +64,8 @@ pub record Like (ps ps' : List Place) (p : ℕ) : Type 0 where
   pub len : length ps' ≡ length ps
 
 module _ {ps ps' : List Place} {p : ℕ} (k : Like ps ps' p) where
-  pub time_like : (r : ℕ) → r ≢ p → time_at ps' r ≡ time_at ps r
-  time_like r ne = ap (λ (v : Version). v.time) (k.version r ne)
-
-  pub entry_like : (r : ℕ) → r ≢ p → entry_at ps' r ≡ entry_at ps r
-  entry_like r ne = ap (λ (v : Version). v.entry) (k.version r ne)
-
-  pub old_of : (d r : ℕ) → r ≢ p → OfEntry ps' d r → OfEntry ps d r
-  old_of d r ne o = (omega (arith, time_like r ne, o.0), sym (entry_like r ne) ∙ o.1)
-
-  pub new_of : (d r : ℕ) → r ≢ p → OfEntry ps d r → OfEntry ps' d r
-  new_of d r ne o = (omega (arith, time_like r ne, o.0), entry_like r ne ∙ o.1)
-
-  pub old_free : (r : ℕ) → r ≢ p → Free ps' r → Free ps r
-  old_free r ne o = (omega (arith, o.0, k.len), sym (time_like r ne) ∙ o.1)
-
-  pub new_free : (r : ℕ) → r ≢ p → Free ps r → Free ps' r
-  new_free r ne o = (omega (arith, o.0, k.len), time_like r ne ∙ o.1)
+  pub alike : (r : ℕ) → r ≢ p → (time_at ps' r ≡ time_at ps r) × (entry_at ps' r ≡ entry_at ps r) × (below_at ps' r ≡ below_at ps r)
+  alike r ne = (ap (λ (v : Version). v.time) (k.version r ne), ap (λ (v : Version). v.entry) (k.version r ne), k.below r ne)
 
   -- where p holds the same, all do
   pub like_kept : (d u : ℕ) → holds (version_of (get_or ps' p empty_place)) d u ≡ holds (version_of (get_or ps p empty_place)) d u → kept_in ps' d u ≡ kept_in ps d u
