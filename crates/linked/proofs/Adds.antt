@@ -1,10 +1,12 @@
 -- A version put in the first free place, before the others of its entry.
-use Rattle.std.proofs.Common.{◌≡◌, ℕ, ◌+◌, ◌^◌, ◌<◌, ◌≤◌, ◌≢◌, List, get_or, set, Some, None, vec_items, Option, sym, refl, ap, ◌∙◌, subst, inl, inr, arith}
+use Rattle.std.proofs.Common.{◌≡◌, ℕ, ◌+◌, ◌^◌, ◌<◌, ◌≤◌, ◌≢◌, ◌⊎◌, List, get_or, set, Some, None, vec_items, Option, sym, refl, ap, ◌∙◌, subst, ap₂, inl, inr, arith}
+use Rattle.std.proofs.Math.Seq.{take-set-lt}
 use Rattle.std.proofs.lemmas.List.{get_or-set_same, get_or-set_other, length-set}
 use Rattle.std.proofs.lemmas.Bool.{cases_eq}
 use Rattle.cards.specs.Versions.{with_card, held_in}
 use Rattle.keepers.specs.Look.{holds}
-use Rattle.linked.specs.Chain.{empty_place, version_of, used_places, kept_in, time_at, entry_at, next_at, below_at, time_or_zero, OfEntry, Free, Chained, Freed, Sound}
+use Rattle.keepers.specs.Memory.{most_places}
+use Rattle.linked.specs.Chain.{held_place, empty_place, version_of, next_of, below_of, used_places, kept_in, time_at, entry_at, next_at, below_at, time_or_zero, OfEntry, Free, Chained, Freed, Sound}
 use Rattle.linked.specs.View.{linked_used, linked_kept}
 use Rattle.linked.specs.declared.keeper.Linked.{Linked}
 use Rattle.linked.specs.declared.place.Place.{Place}
@@ -12,11 +14,13 @@ use Rattle.keepers.specs.declared.version.Version.{Version}
 use Rattle.cards.proofs.Counts.{held_more, with_here, with_other, same_set}
 use Rattle.keepers.proofs.Looks.{look_some, holds_not}
 use Rattle.linked.specs.Laws.{none_kept, sound_of}
-use Rattle.linked.proofs.Edits.{Like, time_like, entry_like, old_of, new_of, old_free, new_free, like_kept, like_set, used_written}
+use Rattle.keepers.specs.declared.entry.EntryNumber.{EntryNumber}
+use Rattle.linked.proofs.Facts.{first_free, entry_below, newest}
+use Rattle.linked.proofs.Edits.{Like, alike, like_kept, like_set, used_in, Timed, held_timed}
 
 module _ {ps : List Place} {hs : List (Option ℕ)} {f : Option ℕ} {n h : ℕ} (s : Sound ps hs f n h) (p : ℕ) (v : Version) (is : f ≡ Some p) (le : v.entry < 1024) (lt : v.time < 2 ^ 32) (late : time_or_zero ps (get_or hs v.entry None) < v.time) where
   abbrev new : Place
-  new = record { version = v; next = get_or hs v.entry None; below = 0 }
+  new = held_place (record { version = v; older = get_or hs v.entry None })
 
   abbrev ps' : List Place
   ps' = set ps p new
@@ -37,131 +41,83 @@ module _ {ps : List Place} {hs : List (Option ℕ)} {f : Option ℕ} {n h : ℕ}
 
   -- ---- the new place, the others, the new head
 
-  here : (r : ℕ) → r ≡ p → get_or ps' r empty_place ≡ new
-  here r q = ap (λ (k : ℕ). get_or ps' k empty_place) q ∙ get_or-set_same ps p new empty_place free.0.0
-
-  t_here : (r : ℕ) → r ≡ p → time_at ps' r ≡ v.time
-  t_here r q = ap (λ (x : Place). x.version.time) (here r q)
-
-  e_here : (r : ℕ) → r ≡ p → entry_at ps' r ≡ v.entry
-  e_here r q = ap (λ (x : Place). x.version.entry) (here r q)
+  here : get_or ps' p empty_place ≡ new
+  here = get_or-set_same ps p new empty_place free.0.0
 
   like : Like ps ps' p
   like = like_set ps p new
 
-  t_other : (r : ℕ) → r ≢ p → time_at ps' r ≡ time_at ps r
-  t_other = time_like like
+  at_p : (r : ℕ) → r ≡ p → get_or ps' r empty_place ≡ new
+  at_p r q = ap (λ (k : ℕ). get_or ps' k empty_place) q ∙ here
 
-  e_other : (r : ℕ) → r ≢ p → entry_at ps' r ≡ entry_at ps r
-  e_other = entry_like like
+  -- what is at a place now
+  at : (r : ℕ) → ((r ≡ p) × (time_at ps' r ≡ v.time) × (entry_at ps' r ≡ v.entry) × (next_at ps' r ≡ get_or hs v.entry None)) ⊎ ((r ≢ p) × (next_at ps' r ≡ next_at ps r) × ((time_at ps' r ≡ time_at ps r) × (entry_at ps' r ≡ entry_at ps r) × (below_at ps' r ≡ below_at ps r)))
+  at r = elim (cases_eq r p) [
+    | inl q ↦ inl (q, ap (λ (x : Place). (version_of x).time) (at_p r q), ap (λ (x : Place). (version_of x).entry) (at_p r q), ap next_of (at_p r q))
+    | inr ne ↦ inr (ne, ap next_of (get_or-set_other ps p r new empty_place ne), alike like r ne)
+  ]
 
-  n_other : (r : ℕ) → r ≢ p → next_at ps' r ≡ next_at ps r
-  n_other r ne = ap (λ (x : Place). x.next) (get_or-set_other ps p r new empty_place ne)
-
-  h_here : (d : ℕ) → d ≡ v.entry → get_or hs' d None ≡ Some p
-  h_here d q = ap (λ (k : ℕ). get_or hs' k None) q ∙ get_or-set_same hs v.entry (Some p) None (omega (arith, s.chained.heads))
-
-  h_other : (d : ℕ) → d ≢ v.entry → get_or hs' d None ≡ get_or hs d None
-  h_other d ne = get_or-set_other hs v.entry d (Some p) None ne
-
-  apart : (r : ℕ) → 0 < time_at ps r → r ≢ p
-  apart r l q = omega (arith, ap (time_at ps) q, free.0.1)
-
-  -- another place of the new place's entry is older
-  older : (a r : ℕ) → a ≢ p → r ≡ p → 0 < time_at ps' a → entry_at ps' a ≡ entry_at ps' r → time_at ps' a < time_at ps' r
-  older a r ne q l x = omega (arith, t_here r q, t_other a ne, above a (old_of like v.entry a ne (l, x ∙ e_here r q)))
+  -- what is at a head now
+  head : (d : ℕ) → ((d ≡ v.entry) × (get_or hs' d None ≡ Some p)) ⊎ ((d ≢ v.entry) × (get_or hs' d None ≡ get_or hs d None))
+  head d = elim (cases_eq d v.entry) [
+    | inl q ↦ inl (q, ap (λ (k : ℕ). get_or hs' k None) q ∙ get_or-set_same hs v.entry (Some p) None (omega (arith, s.chained.heads)))
+    | inr ne ↦ inr (ne, get_or-set_other hs v.entry d (Some p) None ne)
+  ]
 
   -- ---- the chains
 
   next_some : (a b : ℕ) → 0 < time_at ps' a → next_at ps' a ≡ Some b → OfEntry ps' (entry_at ps' a) b × (time_at ps' b < time_at ps' a) × ((r : ℕ) → OfEntry ps' (entry_at ps' a) r → time_at ps' r < time_at ps' a → time_at ps' r ≤ time_at ps' b)
   next_some a b l x =
-      elim (cases_eq a p) [
-        | inl q ↦
-            (let top = s.chained.head_some v.entry b (sym (ap (λ (y : Place). y.next) (here a q)) ∙ x) in
-            let nb : b ≢ p = apart b top.0.0 in
-            let o = new_of like v.entry b nb top.0 in (
-              (o.0, o.1 ∙ sym (e_here a q)),
-              omega (arith, t_here a q, t_other b nb, above b top.0),
-              λ r w y. elim (cases_eq r p) [
-                | inl z ↦ omega (arith, t_here a q, t_here r z)
-                | inr nr ↦ omega (arith, t_other r nr, t_other b nb, top.1 r (old_of like v.entry r nr (w.0, w.1 ∙ e_here a q)))
-              ],
-            ))
-        | inr na ↦
-            (let old = s.chained.next_some a b (omega (arith, t_other a na)) (sym (n_other a na) ∙ x) in
-            let nb : b ≢ p = apart b old.0.0 in
-            let o = new_of like (entry_at ps a) b nb old.0 in (
-              (o.0, o.1 ∙ sym (e_other a na)),
-              omega (arith, t_other a na, t_other b nb, old.1),
-              λ r w y. elim (cases_eq r p) [
-                | inl z ↦ absurd (omega (arith, older a r na z l (sym w.1)))
-                | inr nr ↦ omega (arith, t_other r nr, t_other b nb, old.2 r (old_of like (entry_at ps a) r nr (w.0, w.1 ∙ e_other a na)) (omega (arith, t_other r nr, t_other a na)))
-              ],
-            ))
-      ]
+      let zero = free.0.1 in
+      let at_a = at a in
+      let at_b = at b in
+      let new = above b in
+      let top = s.chained.head_some v.entry b in
+      let old = s.chained.next_some a b in (
+        (grind arith, grind arith),
+        grind arith,
+        λ r o y.
+            let at_r = at r in
+            let new_r = above r in
+            let top_r = λ (e : get_or hs v.entry None ≡ Some b). (top e).1 r in
+            let old_r = λ (w : 0 < time_at ps a) (e : next_at ps a ≡ Some b). (old w e).2 r in
+            grind arith,
+      )
 
   next_none : (a : ℕ) → 0 < time_at ps' a → next_at ps' a ≡ None → (r : ℕ) → OfEntry ps' (entry_at ps' a) r → time_at ps' a ≤ time_at ps' r
   next_none a l x r o =
-      elim (cases_eq a p) [
-        | inl q ↦ elim (cases_eq r p) [
-          | inl z ↦ omega (arith, t_here a q, t_here r z)
-          | inr nr ↦ absurd (s.chained.head_none v.entry (sym (ap (λ (y : Place). y.next) (here a q)) ∙ x) le r (old_of like v.entry r nr (o.0, o.1 ∙ e_here a q)))
-        ]
-        | inr na ↦ elim (cases_eq r p) [
-          | inl z ↦ omega (arith, older a r na z l (sym o.1))
-          | inr nr ↦ omega (arith, t_other a na, t_other r nr, s.chained.next_none a (omega (arith, t_other a na)) (sym (n_other a na) ∙ x) r (old_of like (entry_at ps a) r nr (o.0, o.1 ∙ e_other a na)))
-        ]
-      ]
+      let at_a = at a in
+      let at_r = at r in
+      let new = above r in
+      let end = s.chained.head_none v.entry in
+      let old = s.chained.next_none a in
+      grind arith
 
   head_some : (d q : ℕ) → get_or hs' d None ≡ Some q → OfEntry ps' d q × ((r : ℕ) → OfEntry ps' d r → time_at ps' r ≤ time_at ps' q)
   head_some d q x =
-      elim (cases_eq d v.entry) [
-        | inl y ↦
-            (let head = h_here d y in
-            let qp : q ≡ p = cc in (
-              (omega (arith, t_here q qp), e_here q qp ∙ sym y),
-              λ r w. elim (cases_eq r p) [
-                | inl z ↦ omega (arith, t_here q qp, t_here r z)
-                | inr nr ↦ omega (arith, older r q nr qp w.0 (w.1 ∙ y ∙ sym (e_here q qp)))
-              ],
-            ))
-        | inr ne ↦
-            (let old = s.chained.head_some d q (sym (h_other d ne) ∙ x) in
-            let nq : q ≢ p = apart q old.0.0 in (
-              new_of like d q nq old.0,
-              λ r w. elim (cases_eq r p) [
-                | inl z ↦ absurd (ne (sym w.1 ∙ e_here r z))
-                | inr nr ↦ omega (arith, t_other r nr, t_other q nq, old.1 r (old_of like d r nr w))
-              ],
-            ))
-      ]
+      let zero = free.0.1 in
+      let head_d = head d in
+      let at_q = at q in
+      let old = s.chained.head_some d q in (
+        (grind arith, grind arith),
+        λ r o.
+            let at_r = at r in
+            let new = above r in
+            let top = λ (e : get_or hs d None ≡ Some q). (old e).1 r in
+            grind arith,
+      )
 
   head_none : (d : ℕ) → get_or hs' d None ≡ None → d < 1024 → (r : ℕ) → OfEntry ps' d r → ⊥
   head_none d x l r o =
-      elim (cases_eq d v.entry) [
-        | inl y ↦ (let head = h_here d y in let z : ◌≡◌ {A = ℕ} 0 1 = cc in omega arith)
-        | inr ne ↦ elim (cases_eq r p) [
-          | inl z ↦ ne (sym o.1 ∙ e_here r z)
-          | inr nr ↦ s.chained.head_none d (sym (h_other d ne) ∙ x) l r (old_of like d r nr o)
-        ]
-      ]
+      let head_d = head d in
+      let at_r = at r in
+      let none = s.chained.head_none d in
+      grind arith
 
   chained : Chained ps' hs'
   chained = record {
-    entries = λ r l. elim (cases_eq r p) [
-      | inl q ↦ omega (arith, e_here r q)
-      | inr ne ↦ omega (arith, e_other r ne, s.chained.entries r (omega (arith, t_other r ne)))
-    ];
-    once = λ a b l x y. elim (cases_eq a p) [
-      | inl q ↦ elim (cases_eq b p) [
-        | inl w ↦ q ∙ sym w
-        | inr ne ↦ absurd (omega (arith, older b a ne q (omega arith) (sym x)))
-      ]
-      | inr ne ↦ elim (cases_eq b p) [
-        | inl w ↦ absurd (omega (arith, older a b ne w l x))
-        | inr nw ↦ s.chained.once a b (omega (arith, t_other a ne)) (sym (e_other a ne) ∙ x ∙ e_other b nw) (sym (t_other a ne) ∙ y ∙ t_other b nw)
-      ]
-    ];
+    entries = λ r l. let at_r = at r in let old = s.chained.entries r in grind arith;
+    once = λ a b l x y. let at_a = at a in let at_b = at b in let new_a = above a in let new_b = above b in let old = s.chained.once a b in grind arith;
     next_some = next_some;
     next_none = next_none;
     head_some = head_some;
@@ -171,29 +127,20 @@ module _ {ps : List Place} {hs : List (Option ℕ)} {f : Option ℕ} {n h : ℕ}
 
   -- ---- the free places
 
-  taken : (r : ℕ) → Free ps' r → r ≢ p
-  taken r o q = omega (arith, t_here r q, o.1)
-
-  was_free : (r : ℕ) → Free ps' r → Free ps r
-  was_free r o = old_free like r (taken r o) o
-
   freed : Freed ps' (next_at ps p) (below_at ps p)
   freed = record {
     next_some = λ a b o x.
-        let na = taken a o in
-        let old = s.freed.next_some a b (was_free a o) (sym (n_other a na) ∙ x) in
-        let nb : b ≢ p = λ q. omega (arith, ap (below_at ps) q, free.1, old.1, s.freed.under a (was_free a o)) in
-        (new_free like b nb old.0, omega (arith, like.below a na, like.below b nb, old.1));
-    next_none = λ a o x. like.below a (taken a o) ∙ s.freed.next_none a (was_free a o) (sym (n_other a (taken a o)) ∙ x);
-    under = λ a o. elim (cases_eq (below_at ps a) (below_at ps p)) [
-      | inl q ↦ absurd (taken a o (s.freed.once a p (was_free a o) free.0 q))
-      | inr ne ↦ omega (arith, like.below a (taken a o), free.1, s.freed.under a (was_free a o))
-    ];
-    once = λ a b o w x. s.freed.once a b (was_free a o) (was_free b w) (sym (like.below a (taken a o)) ∙ x ∙ like.below b (taken b w));
-    first_some = λ q x.
-        let old = s.freed.next_some p q free.0 x in
-        let nq : q ≢ p = λ y. omega (arith, ap (below_at ps) y, old.1) in
-        (new_free like q nq old.0, omega (arith, like.below q nq, old.1));
+        let at_a = at a in
+        let at_b = at b in
+        let len = like.len in
+        let first = free.1 in
+        let below = s.freed.under a in
+        let old = s.freed.next_some a b in
+        ((grind arith, grind arith), grind arith);
+    next_none = λ a o x. let at_a = at a in let len = like.len in let old = s.freed.next_none a in grind arith;
+    under = λ a o. let at_a = at a in let len = like.len in let first = free in let below = s.freed.under a in let old = s.freed.once a p in grind arith;
+    once = λ a b o w x. let at_a = at a in let at_b = at b in let len = like.len in let old = s.freed.once a b in grind arith;
+    first_some = λ q x. let at_q = at q in let len = like.len in let old = s.freed.next_some p q free.0 x in ((grind arith, grind arith), grind arith);
     first_none = λ x. s.freed.next_none p free.0 x;
   }
 
@@ -201,11 +148,13 @@ module _ {ps : List Place} {hs : List (Option ℕ)} {f : Option ℕ} {n h : ℕ}
 
   add_kept : kept_in ps' ≡ with_card (kept_in ps) v.entry v.time v.card
   add_kept =
+      let t : time_at ps' p ≡ v.time = ap (λ (x : Place). (version_of x).time) here in
+      let e : entry_at ps' p ≡ v.entry = ap (λ (x : Place). (version_of x).entry) here in
       same_set _ _ v.entry v.time
-      (look_some version_of empty_place ps' v.entry v.time p (λ q o w. chained.once q p o.0 (o.1 ∙ sym (e_here p refl)) (w ∙ sym (t_here p refl))) (omega (arith, t_here p refl), e_here p refl) (t_here p refl) refl
-      ∙ ap (λ (x : Place). Some x.version.card) (here p refl) ∙ sym (with_here (kept_in ps) v.entry v.time v.card))
+      (look_some version_of empty_place ps' v.entry v.time p (λ q o w. chained.once q p o.0 (o.1 ∙ sym e) (w ∙ sym t)) (omega (arith, t), e) t refl
+      ∙ ap (λ (x : Place). Some (version_of x).card) here ∙ sym (with_here (kept_in ps) v.entry v.time v.card))
       (λ d u ne.
-      like_kept like d u (ap (λ (x : Place). holds x.version d u) (here p refl) ∙ holds_not v d u (λ _ x y. ne (sym x) (sym y)) ∙ sym (holds_not (get_or ps p empty_place).version d u (λ l x y. omega (arith, free.0.1))))
+      like_kept like d u (ap (λ (x : Place). holds (version_of x) d u) here ∙ holds_not v d u (λ _ x y. ne (sym x) (sym y)) ∙ sym (holds_not (version_of (get_or ps p empty_place)) d u (λ l x y. omega (arith, free.0.1))))
       ∙ sym (with_other (kept_in ps) v.entry v.time v.card d u ne))
 
   add_sound : Sound ps' hs' (next_at ps p) (below_at ps p) (h + 1)
@@ -214,20 +163,28 @@ module _ {ps : List Place} {hs : List (Option ℕ)} {f : Option ℕ} {n h : ℕ}
     freed = freed;
     counted = ap (λ (k : ℕ). k + 1) s.counted ∙ sym (ap held_in add_kept ∙ held_more (kept_in ps) v.entry v.time v.card le lt (none_kept ps v.entry v.time (λ r o y. omega (arith, above r o))));
     total = omega (arith, like.len, s.total, free.1);
-    times = λ r. elim (cases_eq r p) [ inl q ↦ omega (arith, t_here r q, lt) | inr ne ↦ omega (arith, t_other r ne, s.times r) ];
+    times = λ r. let at_r = at r in let old = s.times r in grind arith;
+    timed = λ r. elim (cases_eq r p) [ inl q ↦ subst Timed (sym (at_p r q)) (held_timed _ (omega arith)) | inr ne ↦ like.timed r ne (s.timed r) ];
   }
 
--- ---- the same in a keeper's memory: x is the free place as it was read, w the newest time as it was read
+-- ---- the same in a keeper's memory: P is written at the free place, row is the head that leads to it, w the newest time as it was
+-- read, and x the free place as it was read
 
-module _ (k : Linked) {w : ℕ} (p : ℕ) (v : Version) (is : k.free ≡ Some p) (le : v.entry < 1024) (lt : v.time < 2 ^ 32) (newest : w ≡ time_or_zero (linked_used k) (get_or k.heads v.entry None)) (late : w < v.time) where
+module _ (k : Linked) {w row at : ℕ} {P : Place} (p : ℕ) (v : Version) (e : EntryNumber) (same : e.number ≡ v.entry) (is : k.free.first ≡ Some p) (read : w ≡ time_or_zero (linked_used k) (get_or k.heads e.number None)) (late : w < v.time) (lt : v.time < 2 ^ 32) (row-is : row ≡ e.number) (at-is : at ≡ p) (P-is : P ≡ held_place (record { version = v; older = get_or k.heads row None })) where
   above_all : time_or_zero (linked_used k) (get_or k.heads v.entry None) < v.time
-  above_all = subst (λ (u : ℕ). u < v.time) newest late
+  above_all = subst (λ (u : ℕ). u < v.time) (newest k v e same is read) late
 
   abbrev placed : Place
-  placed = record { version = v; next = get_or k.heads v.entry None; below = 0 }
+  placed = held_place (record { version = v; older = get_or k.heads v.entry None })
 
-  pub placed_kept : kept_in (used_places (set (vec_items k.places) p placed)) ≡ with_card (linked_kept k) v.entry v.time v.card
-  placed_kept = ap kept_in (used_written (vec_items k.places) p placed) ∙ add_kept (sound_of k) p v is le lt above_all
+  P-same : P ≡ placed
+  P-same = P-is ∙ ap (λ (d : ℕ). held_place (record { version = v; older = get_or k.heads d None })) (row-is ∙ same)
 
-  pub placed_sound : (x : Place) → x ≡ get_or (linked_used k) p empty_place → Sound (used_places (set (vec_items k.places) p placed)) (set k.heads v.entry (Some p)) x.next x.below (k.held + 1)
-  placed_sound x read = rw (used_written (vec_items k.places) p placed, read) (add_sound (sound_of k) p v is le lt above_all)
+  written : used_places (set (vec_items k.places) at P) ≡ set (linked_used k) p placed
+  written = ap₂ (λ (a : ℕ) (x : Place). used_places (set (vec_items k.places) a x)) at-is P-same ∙ take-set-lt most_places (vec_items k.places) p placed (used_in k p (first_free k p is).0).1
+
+  pub placed_kept : kept_in (used_places (set (vec_items k.places) at P)) ≡ with_card (linked_kept k) v.entry v.time v.card
+  placed_kept = ap kept_in written ∙ add_kept (sound_of k) p v is (entry_below k v e same) lt above_all
+
+  pub placed_sound : (x : Place) → x ≡ get_or (linked_used k) p empty_place → Sound (used_places (set (vec_items k.places) at P)) (set k.heads row (Some p)) (next_of x) (below_of x) (k.held + 1)
+  placed_sound x place = rw (written, ap (λ (d : ℕ). set k.heads d (Some p)) (row-is ∙ same), place) (add_sound (sound_of k) p v is (entry_below k v e same) lt above_all)

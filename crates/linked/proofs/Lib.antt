@@ -4,3 +4,4 @@ pub mod Cuts
 pub mod Edits
 pub mod Facts
 pub mod News
+pub mod Numbers

@@ -1,38 +1,28 @@
 -- Memory made free: each place leads to the one before it, and no entry has a version.
-use Rattle.std.proofs.Common.{◌≡◌, ℕ, zero, suc, ◌+◌, ◌-◌, ◌<◌, List, length, get_or, drop, set, replicate, Some, None, vec_items, vec_len, Option, Vec, sym, refl, ap, ◌∙◌, subst, inl, inr, arith}
-use Rattle.std.proofs.lemmas.List.{get_or_past, get_or-take, get_or-set_same, get_or-set_other, length-take, drop-drop, with_items_is}
-use Rattle.std.proofs.lemmas.Bool.{cases_eq, cases_lt}
+use Rattle.std.proofs.Common.{◌≡◌, ℕ, zero, suc, ◌+◌, ◌-◌, ◌<◌, List, length, get_or, drop, Some, None, vec_items, vec_len, Option, Vec, sym, refl, ap, ◌∙◌, subst, inl, inr, arith}
+use Rattle.std.proofs.lemmas.List.{get_or_past, get_or-take, length-take, drop-drop, with_items_is}
+use Rattle.std.proofs.lemmas.Bool.{cases_lt}
 use Rattle.std.specs.Vec.{with_items}
 use Rattle.std.specs.declared.alloc.Global.{Global}
 use Rattle.cards.specs.Versions.{Empty}
 use Rattle.keepers.specs.Memory.{most_places, used_of}
-use Rattle.linked.specs.Chain.{empty_place, free_place, used_places, kept_in, time_at, next_at, below_at, OfEntry, Sound, before, AllFree}
+use Rattle.linked.specs.Chain.{empty_place, version_of, next_of, below_of, used_places, kept_in, time_at, next_at, below_at, OfEntry, Sound, before, AllFree}
 use Rattle.linked.specs.declared.place.Place.{Place}
 use Rattle.cards.proofs.Counts.{held_none}
 use Rattle.linked.specs.Laws.{none_kept}
-
--- one more place made free
-pub all_more : (ps : List Place) (i : ℕ) (x : Place) → i < length ps → x ≡ free_place (before i) i → AllFree ps i → AllFree (set ps i x) (i + 1)
-all_more ps i x l is all k lt =
-    elim (cases_eq k i) [
-      | inl q ↦ rw q (get_or-set_same ps i x empty_place l ∙ is)
-      | inr ne ↦ get_or-set_other ps i k x empty_place ne ∙ all k (omega (arith, ne))
-    ]
-
-pub before_more : (i : ℕ) → before (i + 1) ≡ Some i
-before_more i = let e : i + 1 ≡ suc i = omega arith in rw e
+use Rattle.linked.proofs.Edits.{Timed, free_timed}
 
 before_some : (p q : ℕ) → before p ≡ Some q → p ≡ suc q
-before_some zero q e = let z : ◌≡◌ {A = ℕ} 0 1 = cc in absurd (omega arith)
-before_some (suc p) q e = ap suc (let z : p ≡ q = cc in z)
+before_some zero q e = cc
+before_some (suc p) q e = cc
 
 before_none : (p : ℕ) → before p ≡ None → p ≡ 0
 before_none zero e = refl
-before_none (suc p) e = let z : ◌≡◌ {A = ℕ} 0 1 = cc in absurd (omega arith)
+before_none (suc p) e = cc
 
 module _ (ps : List Place) (all : AllFree ps (length ps)) where
   time_none : (p : ℕ) → time_at ps p ≡ 0
-  time_none p = elim (cases_lt p (length ps)) [ inl l ↦ ap (λ (x : Place). x.version.time) (all p l) | inr ge ↦ ap (λ (x : Place). x.version.time) (get_or_past ps p empty_place ge) ]
+  time_none p = elim (cases_lt p (length ps)) [ inl l ↦ ap (λ (x : Place). (version_of x).time) (all p l) | inr ge ↦ ap (λ (x : Place). (version_of x).time) (get_or_past ps p empty_place ge) ]
 
   not_of : (e r : ℕ) → OfEntry ps e r → ⊥
   not_of e r o = omega (arith, time_none r, o.0)
@@ -41,10 +31,10 @@ module _ (ps : List Place) (all : AllFree ps (length ps)) where
   none_new e t = none_kept ps e t (λ r o _. not_of e r o)
 
   below_is : (p : ℕ) → p < length ps → below_at ps p ≡ p
-  below_is p l = ap (λ (x : Place). x.below) (all p l)
+  below_is p l = ap below_of (all p l)
 
   next_is : (p : ℕ) → p < length ps → next_at ps p ≡ before p
-  next_is p l = ap (λ (x : Place). x.next) (all p l)
+  next_is p l = ap next_of (all p l)
 
   new_sound : (hs : List (Option ℕ)) (n : ℕ) → length hs ≡ 1024 → ((e : ℕ) → get_or hs e None ≡ None) → n ≡ length ps → Sound ps hs (before n) n 0
   new_sound hs n len bare is = record {
@@ -53,7 +43,7 @@ module _ (ps : List Place) (all : AllFree ps (length ps)) where
       once = λ p q l x y. absurd (omega (arith, time_none p));
       next_some = λ p q l x. absurd (omega (arith, time_none p));
       next_none = λ p l x r o. absurd (omega (arith, time_none p));
-      head_some = λ e p x. absurd (let b = bare e in let z : ◌≡◌ {A = ℕ} 0 1 = cc in omega arith);
+      head_some = λ e p x. cc (bare e);
       head_none = λ e x l r o. not_of e r o;
       heads = len;
     };
@@ -68,12 +58,8 @@ module _ (ps : List Place) (all : AllFree ps (length ps)) where
     counted = sym (held_none (kept_in ps) none_new);
     total = omega arith;
     times = λ p. omega (arith, time_none p);
+    timed = λ p. elim (cases_lt p (length ps)) [ inl l ↦ subst Timed (sym (all p l)) (free_timed _ _) | inr ge ↦ subst Timed (sym (get_or_past ps p empty_place ge)) (free_timed None 0) ];
   }
-
-pub bare_all : (n e : ℕ) → get_or {A = Option ℕ} (replicate n None) e None ≡ None
-bare_all zero e = refl
-bare_all (suc n) zero = refl
-bare_all (suc n) (suc e) = bare_all n e
 
 -- ---- the whole of a making: the memory m, of which the first n places were made free in ws
 
@@ -88,12 +74,10 @@ module _ (m : Vec Place Global) (ws : List Place) (n : ℕ) (len : length ws ≡
   used_free k l = get_or-take most_places ws k empty_place (omega (arith, used_len)) ∙ all k (omega (arith, used_len))
 
   pub made_empty : Empty (kept_in (used_places (vec_items (with_items m ws))))
-  made_empty = subst (λ (ps : List Place). Empty (kept_in (used_places ps))) (sym fill) (none_new (used_places ws) used_free)
+  made_empty = rw fill (none_new (used_places ws) used_free)
 
-  pub made_sound : {hs : List (Option ℕ)} {f : Option ℕ} → length hs ≡ 1024 → ((e : ℕ) → get_or hs e None ≡ None) → f ≡ before n → Sound (used_places (vec_items (with_items m ws))) hs f n 0
-  made_sound {hs} {f} heads bare is =
-      subst (λ (ps : List Place). Sound (used_places ps) hs f n 0) (sym fill)
-      (subst (λ (o : Option ℕ). Sound (used_places ws) hs o n 0) (sym is) (new_sound (used_places ws) used_free hs n heads bare used_len))
+  pub made_sound : {hs : List (Option ℕ)} {f : Option ℕ} {k : ℕ} → length hs ≡ 1024 → ((e : ℕ) → get_or hs e None ≡ None) → f ≡ before n → k ≡ n → Sound (used_places (vec_items (with_items m ws))) hs f k 0
+  made_sound {hs} heads bare first count = rw (fill, first, count) (new_sound (used_places ws) used_free hs n heads bare used_len)
 
   -- places past the used ones are as they were
   pub made_rest : {ys : List Place} → ys ≡ vec_items m → drop n ws ≡ drop n ys → drop most_places (vec_items (with_items m ws)) ≡ drop most_places (vec_items m)

@@ -4,11 +4,19 @@ use Rattle.cards.specs.Versions.{Kept, held_in}
 use Rattle.keepers.specs.Look.{no_version, look, Of}
 use Rattle.keepers.specs.Memory.{most_places}
 use Rattle.linked.specs.declared.place.Place.{Place}
+use Rattle.linked.specs.declared.place.Link.{Link}
+use Rattle.linked.specs.declared.place.Content.TheVariants as content
 use Rattle.keepers.specs.declared.version.Version.{Version}
+
+-- ---- what a place holds
+
+-- a place that holds a link
+abbrev pub held_place : Link → Place
+held_place l = record { content = content.Held l }
 
 -- a free place that leads to the place n, after which come so many free places
 abbrev pub free_place : Option ℕ → ℕ → Place
-free_place n below = record { version = no_version; next = n; below = below }
+free_place n below = record { content = content.Free (record { first = n; count = below }) }
 
 -- a free place that leads nowhere
 abbrev pub empty_place : Place
@@ -16,7 +24,21 @@ empty_place = free_place None 0
 
 -- the version in a place
 abbrev pub version_of : Place → Version
-version_of p = p.version
+version_of p = elim p.content as (λ _. Version) [ content.Held l ↦ l.version | content.Free _ ↦ no_version ]
+
+-- the place that a place leads to: the next older version's, or the next free one
+abbrev pub next_of : Place → Option ℕ
+next_of p = elim p.content as (λ _. Option ℕ) [ content.Held l ↦ l.older | content.Free others ↦ others.first ]
+
+-- how many free places come after a free place
+abbrev pub below_of : Place → ℕ
+below_of p = elim p.content as (λ _. ℕ) [ content.Held _ ↦ 0 | content.Free others ↦ others.count ]
+
+-- a place that holds a link leads on to n
+abbrev pub led_place : Place → Option ℕ → Place
+led_place p n = elim p.content as (λ _. Place) [ content.Held l ↦ held_place (record { version = l.version; older = n }) | content.Free _ ↦ p ]
+
+-- ---- the places together
 
 -- the places that are used of those in memory
 abbrev pub used_places : List Place → List Place
@@ -30,19 +52,19 @@ kept_in ps = look version_of ps
 
 -- the time of the place p, 0 where it is free
 abbrev pub time_at : List Place → ℕ → ℕ
-time_at ps p = (get_or ps p empty_place).version.time
+time_at ps p = (version_of (get_or ps p empty_place)).time
 
 -- the entry of the place p
 abbrev pub entry_at : List Place → ℕ → ℕ
-entry_at ps p = (get_or ps p empty_place).version.entry
+entry_at ps p = (version_of (get_or ps p empty_place)).entry
 
 -- the place that the place p leads to
 abbrev pub next_at : List Place → ℕ → Option ℕ
-next_at ps p = (get_or ps p empty_place).next
+next_at ps p = next_of (get_or ps p empty_place)
 
 -- how many free places come after the free place p
 abbrev pub below_at : List Place → ℕ → ℕ
-below_at ps p = (get_or ps p empty_place).below
+below_at ps p = below_of (get_or ps p empty_place)
 
 -- the time of a place, 0 without one
 abbrev pub time_or_zero : List Place → Option ℕ → ℕ
@@ -78,13 +100,14 @@ pub record Freed (ps : List Place) (f : Option ℕ) (n : ℕ) : Type 0 where
   pub first_some : (p : ℕ) → f ≡ Some p → Free ps p × (below_at ps p + 1 ≡ n)
   pub first_none : f ≡ None → n ≡ 0
 
--- both, and the two counts
+-- both, the two counts, and that a version that is held has a time that is not 0
 pub record Sound (ps : List Place) (hs : List (Option ℕ)) (f : Option ℕ) (n held : ℕ) : Type 0 where
   pub chained : Chained ps hs
   pub freed : Freed ps f n
   pub counted : held ≡ held_in (kept_in ps)
   pub total : held + n ≡ length ps
   pub times : (p : ℕ) → time_at ps p < 2 ^ 32
+  pub timed : (p : ℕ) (l : Link) → get_or ps p empty_place ≡ held_place l → 0 < l.version.time
 
 -- ---- a walk
 
@@ -98,7 +121,7 @@ pub record After (ps : List Place) (hs : List (Option ℕ)) (e t : ℕ) (b a : O
 -- the place b, where there is one, leads on to n
 abbrev pub led_places : List Place → Option ℕ → Option ℕ → List Place
 led_places ps None n = ps
-led_places ps (Some b) n = slice_set ps b (record { version = (get_or ps b empty_place).version; next = n; below = (get_or ps b empty_place).below })
+led_places ps (Some b) n = slice_set ps b (led_place (get_or ps b empty_place) n)
 
 -- without a place b, the head of the entry e leads on to n
 abbrev pub led_heads : List (Option ℕ) → ℕ → Option ℕ → Option ℕ → List (Option ℕ)

@@ -44,6 +44,7 @@ module _ {ps : List Place} {hs : List (Option ℕ)} {f : Option ℕ} {n held : �
     counted = ℕ_set _ _ x.counted y.counted i;
     total = ℕ_set _ _ x.total y.total i;
     times = Π_prop (λ p. le_prop) x.times y.times i;
+    timed = Π_prop (λ p. Π_prop (λ l. Π_prop (λ _. le_prop))) x.timed y.timed i;
   }
 
   -- what a keeper has of itself
@@ -59,14 +60,14 @@ pub none_past : {ps : List Place} {hs : List (Option ℕ)} → Chained ps hs →
 none_past {ps} ch e t l = none_kept ps e t (λ r o y. omega (arith, o.1, ch.entries r o.0))
 
 module _ (s : Linked) where
-  pub sound_of : Sound (linked_used s) s.heads s.free s.spare s.held
+  pub sound_of : Sound (linked_used s) s.heads s.free.first s.free.count s.held
   sound_of = opened s.sound
 
   pub chain_of : Chained (linked_used s) s.heads
   chain_of = sound_of.chained
 
   -- every used place has a version or is spare
-  pub all_places : held_in (linked_kept s) + s.spare ≡ linked_places s
+  pub all_places : held_in (linked_kept s) + s.free.count ≡ linked_places s
   all_places = omega (arith, sound_of.counted, sound_of.total, length-take most_places (vec_items s.places))
 
 -- ---- the laws

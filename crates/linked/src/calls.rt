@@ -3,9 +3,10 @@ ghost use Rattle.linked.specs.View.{linked_kept, linked_places};
 ghost use Rattle.linked.specs.Laws.{entries_law, starts_law, times_law, fits_law};
 
 use crate::keeper::Linked;
-use crate::place::Place;
+use crate::place::{FreePlaces, Link, Place};
 use crate::walks::unlink;
 use cards::refusal::Refusal;
+use keepers::entry::EntryNumber;
 use keepers::keeper::Keeper;
 use keepers::version::Version;
 
@@ -27,78 +28,64 @@ impl Keeper for Linked {
     }
 
     fn spare(&self) -> u32 {
-        self.spare
+        self.free.count
     }
 
     fn add(&mut self, version: Version) -> Result<(), Refusal> {
-        if version.entry >= 1024 {
-            return Err(Refusal::Entry);
-        }
-        let row = version.entry as usize;
-        let Some(p) = self.free else {
-            return Err(Refusal::Full);
-        };
-        if version.time <= self.head_time(row) {
+        let entry = EntryNumber::try_from(version.entry)?;
+        let p = self.free.first.ok_or(Refusal::Full)?;
+        if version.time <= self.head_time(entry) {
             return Err(Refusal::Order);
         }
-        let place = self.place_at(p);
-        self.places[p as usize] = Place {
+        let others = self.others_at(p);
+        let row = usize::from(entry);
+        let link = Link {
             version,
-            next: self.heads[row],
-            below: 0,
+            older: self.heads[row],
         };
+        self.places[usize::from(p)] = Place::held(link);
         self.heads[row] = Some(p);
-        self.free = place.next;
-        self.spare = place.below;
+        self.free = others;
         self.held += 1;
         Ok(())
     }
 
     fn find(&self, entry: u16, up_to: u32) -> Option<Version> {
-        if entry >= 1024 {
-            return None;
-        }
-        let (_, at) = self.walk(entry as usize, up_to);
-        match at {
-            Some(p) => Some(self.place_at(p).version),
-            None => None,
-        }
+        let entry = EntryNumber::try_from(entry).ok()?;
+        let p = self.walk(entry, up_to).at?;
+        Some(self.link_at(p).version)
     }
 
     fn after(&self, entry: u16, time: u32) -> Option<u32> {
-        if entry >= 1024 {
-            return None;
-        }
-        let (before, _) = self.walk(entry as usize, time);
-        match before {
-            Some(p) => Some(self.place_at(p).version.time),
-            None => None,
-        }
+        let entry = EntryNumber::try_from(entry).ok()?;
+        let p = self.walk(entry, time).before?;
+        Some(self.link_at(p).version.time)
     }
 
     fn remove(&mut self, entry: u16, time: u32) -> bool {
-        if entry >= 1024 {
-            return false;
-        }
-        let row = entry as usize;
-        let (before, at) = self.walk(row, time);
-        let Some(p) = at else {
+        let Ok(entry) = EntryNumber::try_from(entry) else {
             return false;
         };
-        let place = self.place_at(p);
-        if place.version.time != time {
+        let reached = self.walk(entry, time);
+        let Some(p) = reached.at else {
+            return false;
+        };
+        let link = self.link_at(p);
+        if link.version.time != time {
             return false;
         }
         unlink(
             self.places.as_mut_slice(),
             &mut self.heads,
-            row,
-            before,
-            place.next,
+            entry,
+            reached.before,
+            link.older,
         );
-        self.places[p as usize] = Place::freed(self.free, self.spare);
-        self.free = Some(p);
-        self.spare += 1;
+        self.places[usize::from(p)] = Place::freed(self.free);
+        self.free = FreePlaces {
+            first: Some(p),
+            count: self.free.count + 1,
+        };
         self.held -= 1;
         true
     }

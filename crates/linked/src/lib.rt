@@ -5,6 +5,7 @@ mod calls;
 pub mod keeper;
 mod making;
 pub mod place;
+mod reading;
 mod walks;
 
 pub use crate::keeper::Linked;

@@ -5,28 +5,36 @@ ghost use Rattle.keepers.specs.Memory.{most_places, used_of};
 ghost use Rattle.linked.specs.Chain.{AllFree, before};
 ghost use Rattle.linked.specs.View.{linked_kept, linked_places, linked_memory};
 
-use crate::keeper::Linked;
-use crate::place::Place;
+use crate::keeper::{Heads, Linked};
+use crate::place::{FreePlaces, Place};
 use keepers::memory::MOST_PLACES;
 
-// Makes the first n places free, each leading to the one before it, and gives the last.
-fn free_first(places: &mut [Place], n: usize) -> Option<u16>
+// Makes the first n places free, each leading to the one before it, and gives them.
+fn free_first(places: &mut [Place], n: usize) -> FreePlaces
     requires inside { n ≤ length places.old }
     requires few { n ≤ most_places }
     ensures free { AllFree places.new n }
-    ensures first { result ≡ before n }
+    ensures first { result.first ≡ before n }
+    ensures count { result.count ≡ n }
     ensures rest { drop n places.new ≡ drop n places.old }
 {
-    let mut free: Option<u16> = None;
-    for i in 0..n {
-        places[i] = Place::freed(free, i as u32);
-        free = Some(i as u16);
+    let mut free = FreePlaces {
+        first: None,
+        count: 0,
+    };
+    for place in &mut places[..n] {
+        *place = Place::freed(free);
+        // A place's number is how many places come before it, and all of those are free.
+        free = FreePlaces {
+            first: Some(free.count as u16),
+            count: free.count + 1,
+        };
     }
     free
 }
 
 // No entry has a version.
-fn no_heads() -> [Option<u16>; 1024]
+fn no_heads() -> Heads
     ensures bare { (e : ℕ) → slice_index_or result e None ≡ None }
     ensures len { length result ≡ 1024 }
 {
@@ -48,7 +56,6 @@ impl Linked {
             places,
             heads: no_heads(),
             free,
-            spare: used as u32,
             held: 0,
         }
     }
@@ -57,13 +64,6 @@ impl Linked {
     pub fn into_memory(self) -> Vec<Place>
         ensures { result ≡ linked_memory self }
     {
-        let Linked {
-            places,
-            heads: _,
-            free: _,
-            spare: _,
-            held: _,
-        } = self;
-        places
+        self.places
     }
 }

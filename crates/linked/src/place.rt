@@ -1,17 +1,34 @@
 // A place for one version.
 ghost use Rattle.std.specs.Prelude.{◌≡◌};
-ghost use Rattle.linked.specs.Chain.{empty_place, free_place};
+ghost use Rattle.linked.specs.Chain.{empty_place, held_place, free_place};
 
-use cards::card::Card;
 use keepers::version::Version;
 
-// A place is free where its version has time 0, which no version that is held has. It leads to the place of its entry's next
-// older version, or to the next free place; a free one also says how many free places come after it.
+// A version, and the place of its entry's next older one.
+#[derive(Clone, Copy)]
+pub(crate) struct Link {
+    pub(crate) version: Version,
+    pub(crate) older: Option<u16>,
+}
+
+// Free places: the first of them, and how many there are.
+#[derive(Clone, Copy)]
+pub(crate) struct FreePlaces {
+    pub(crate) first: Option<u16>,
+    pub(crate) count: u32,
+}
+
+// What a place holds: a link of its entry's chain, or no version but the free places that come after it.
+#[derive(Clone, Copy)]
+pub(crate) enum Content {
+    Held(Link),
+    Free(FreePlaces),
+}
+
+// A place of the memory. What is in it is the keeper's alone.
 #[derive(Clone, Copy)]
 pub struct Place {
-    pub(crate) version: Version,
-    pub(crate) next: Option<u16>,
-    pub(crate) below: u32,
+    pub(crate) content: Content,
 }
 
 impl Place {
@@ -19,21 +36,27 @@ impl Place {
     pub fn empty() -> Place
         ensures { result ≡ empty_place }
     {
-        Place::freed(None, 0)
+        Place::freed(FreePlaces {
+            first: None,
+            count: 0,
+        })
     }
 
-    // A free place that leads to the next, with so many free places after it.
-    pub(crate) fn freed(next: Option<u16>, below: u32) -> Place
-        ensures { result ≡ free_place next below }
+    // A place that holds a version.
+    pub(crate) fn held(link: Link) -> Place
+        ensures { result ≡ held_place link }
     {
         Place {
-            version: Version {
-                entry: 0,
-                time: 0,
-                card: Card::blank(),
-            },
-            next,
-            below,
+            content: Content::Held(link),
+        }
+    }
+
+    // A free place, put before the others.
+    pub(crate) fn freed(others: FreePlaces) -> Place
+        ensures { result ≡ free_place others.first others.count }
+    {
+        Place {
+            content: Content::Free(others),
         }
     }
 }

@@ -1,16 +1,17 @@
 -- The place before the end of the walk has the least time above, or there is none.
 use Rattle.linked.specs.Laws.{chain_of, none_past}
-use Rattle.linked.proofs.Chains.{in_places, follows_some, follows_none}
+use Rattle.linked.proofs.Chains.{follows_some, follows_none}
+use Rattle.linked.proofs.Numbers.{number_is, no_number}
 use Rattle.linked.proofs.calls.LinkedKeeper.after.Goals as goal
 
-pub returns-then-entry-ge1024 : goal.returns-then-entry-ge1024
-returns-then-entry-ge1024 c = λ u _. none_past (chain_of c.args.self.now) _ u c.if-entry-ge1024.true
+pub returns-in_err-entry : goal.returns-in_err-entry
+returns-in_err-entry c = rw c.from_residual.ensures (λ u _. none_past (chain_of c.args.self.now) _ u (no_number _ c.try_from.ensures c.in_err-entry.ensures.value))
 
-pub place_at-requires : goal.place_at-requires
-place_at-requires c = in_places _ _ (c.walk-before.ensures.after.later _ c.in-Some.is).0.0
+pub returns-in_err-p : goal.returns-in_err-p
+returns-in_err-p c = rw (c.from_residual-in_err-p.ensures, ← number_is _ c.try_from.ensures c.in_ok-entry.ensures.value) (follows_none (chain_of c.args.self.now) c.walk.ensures.after c.walk.ensures.until c.in_err-p.was c.in_ok-entry.entry.below)
 
-pub returns-in-Some : goal.returns-in-Some
-returns-in-Some c = follows_some (chain_of c.args.self.now) _ _ c.walk-before.ensures.after c.walk-before.ensures.until c.in-Some.is c.place_at.ensures
+pub link_at-requires : goal.link_at-requires
+link_at-requires c = (c.walk.ensures.after.later _ c.in_ok-p.was).0.0
 
-pub returns-in-None : goal.returns-in-None
-returns-in-None c = follows_none (chain_of c.args.self.now) c.walk-before.ensures.after c.walk-before.ensures.until c.in-None.is c.if-entry-ge1024.false
+pub returns : goal.returns
+returns c = rw (← number_is _ c.try_from.ensures c.in_ok-entry.ensures.value) (follows_some (chain_of c.args.self.now) _ _ c.walk.ensures.after c.walk.ensures.until c.in_ok-p.was c.link_at.ensures)

@@ -4,9 +4,9 @@ use Rattle.linked.specs.View.{linked_used}
 use Rattle.linked.proofs.keeper.Linked.walk.Given as goal
 
 -- where the walk stands
-abbrev pub invariant-loop-at : goal.invariant-loop-at
-invariant-loop-at l = After (linked_used l.self) l.self.heads l.row l.time l.before l.at
+abbrev pub invariant-loop-reached : goal.invariant-loop-reached
+invariant-loop-reached l = After (linked_used l.self) l.self.heads l.fn.entry.number l.time l.reached.before l.reached.at
 
 -- the time of the place that it has come to
-abbrev pub decreases-loop-at : goal.decreases-loop-at
-decreases-loop-at l = time_or_zero (linked_used l.self) l.at
+abbrev pub decreases-loop-reached : goal.decreases-loop-reached
+decreases-loop-reached l = time_or_zero (linked_used l.self) l.reached.at
