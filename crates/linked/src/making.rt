@@ -24,7 +24,7 @@ fn free_first(places: &mut [Place], n: usize) -> FreePlaces
     };
     for place in &mut places[..n] {
         *place = Place::freed(free);
-        // A place's number is how many places come before it, and all of those are free.
+        // A place's number is how many places come before it, and all of those are free. A proved cast: `try_from` would want the same proof.
         free = FreePlaces {
             first: Some(free.count as u16),
             count: free.count + 1,
@@ -41,6 +41,7 @@ fn no_heads() -> Heads
     [None; 1024]
 }
 
+// No trait says this for every keeper: the check can't give `new` the clauses of a trait, so each keeper would write them again.
 impl Linked {
     // A keeper of nothing, in the first 65,536 places of the memory.
     pub fn new(memory: Vec<Place>) -> Linked

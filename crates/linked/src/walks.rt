@@ -15,7 +15,7 @@ pub(crate) struct Reached {
 }
 
 impl Linked {
-    // The time of an entry's newest version, 0 where it has none.
+    // The time of an entry's newest version, 0 where it has none: no version has time 0, so one test serves both.
     pub(crate) fn head_time(&self, entry: EntryNumber) -> u32
         ensures { result ≡ time_or_zero (linked_used self.now) (slice_index_or self.now.heads entry.number None) }
     {
@@ -49,7 +49,8 @@ impl Linked {
     }
 }
 
-// Lets what leads to a place of a chain, the place before it or the entry's head, lead on to the next.
+// Lets what leads to a place of a chain, the place before it or the entry's head, lead on to the next. No method, since the keeper is not
+// sound in between.
 pub(crate) fn unlink(
     places: &mut [Place],
     heads: &mut Heads,

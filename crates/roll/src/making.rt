@@ -26,7 +26,6 @@ impl Roll {
     pub fn into_memory(self) -> Vec<Version>
         ensures { result ≡ roll_memory self }
     {
-        let Roll { places, held: _ } = self;
-        places
+        self.places
     }
 }
