@@ -2,7 +2,8 @@
 ghost use Rattle.std.specs.Prelude.{◌≡◌, ◌<◌};
 ghost use Rattle.cards.specs.Cards.{blank_card, bit, map_of};
 
-// Six fields, each a number or absent. An absent field has no number that could disagree with the bit map.
+// Six fields, each a number or absent. An absent field has no number that could disagree with the bit map. They are named, and no array, as
+// the project wants; so what goes over them is written out.
 #[derive(Clone, Copy, Default, PartialEq, Eq, Debug)]
 pub struct Card {
     pub advance: Option<i16>,
@@ -17,10 +18,7 @@ pub struct Card {
 fn bit_of(field: Option<i16>, value: u8) -> u8
     ensures { result ≡ bit field value }
 {
-    match field {
-        Some(_) => value,
-        None => 0,
-    }
+    field.map_or(0, |_| value)
 }
 
 impl Card {

@@ -33,8 +33,8 @@ pub fn packed_len(card: Card) -> usize
     length_of(card.map())
 }
 
-// Writes a field's bytes from a place on, and says where they end. The buffer is lent, so its place
-// stands beside it; a type for the two would serve `pack` alone.
+// Writes a field's bytes from a place on, and says where they end. It could hand back the rest of the buffer in place of a number, but then
+// a clause would have to say how what is written there comes back.
 fn put_field(out: &mut [u8], at: usize, field: Option<i16>) -> usize
     requires { at + length (field_bytes field) ≤ length out.old }
     ensures end { result ≡ at + length (field_bytes field) }
@@ -50,7 +50,8 @@ fn put_field(out: &mut [u8], at: usize, field: Option<i16>) -> usize
     }
 }
 
-// Writes a card at the front of a buffer and answers its length. Bytes behind it stay; where it has no room, all do.
+// Writes a card at the front of a buffer and answers its length. Bytes behind it stay; where it has no room, all do. The buffer is the
+// caller's, so it is lent and no `Vec` is made.
 #[tactic(auto, using(crate::proofs::Fields::packed_length))]
 pub fn pack(card: Card, out: &mut [u8]) -> Result<usize, Refusal>
     ensures answer { result ≡ pack_answer card (length out.old) }
@@ -60,6 +61,7 @@ pub fn pack(card: Card, out: &mut [u8]) -> Result<usize, Refusal>
     if out.len() < length_of(map) {
         return Err(Refusal::Short);
     }
+    // One byte; no call says it in fewer words.
     out[0] = map;
     let at = put_field(out, 1, card.advance);
     let at = put_field(out, at, card.left_bearing);
@@ -77,9 +79,11 @@ fn take_field(bytes: &[u8], present: bool) -> (Option<i16>, &[u8])
     ensures there { is_some result.0 ≡ present }
     ensures fit { Fit result.0 }
 {
-    match bytes.split_first_chunk::<2>() {
-        Some((number, rest)) if present => (Some(i16::from_be_bytes(*number)), rest),
-        _ => (None, bytes),
+    if present {
+        let (number, rest) = bytes.split_first_chunk::<2>().unwrap();
+        (Some(i16::from_be_bytes(*number)), rest)
+    } else {
+        (None, bytes)
     }
 }
 

@@ -35,7 +35,7 @@ impl Refusal {
         self as u8
     }
 
-    // Its word, for people. A `Display` promises no more than its text, and hosts want the text itself.
+    // Its word, for people. `Display` writes it; a host may want it as a value.
     pub fn word(self) -> &'static str
         ensures { result.now ≡ word_of self }
     {

@@ -1,4 +1,4 @@
-// The packed form at its edges, by the code itself.
+// The packed form at its edges, by the code itself. What is wanted is written out in arrays.
 use crate::card::Card;
 use crate::kind::{Letter, Mark, Pair, fits};
 use crate::packing::{pack, packed_len, unpack};

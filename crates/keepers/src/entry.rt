@@ -3,8 +3,8 @@ ghost use Rattle.std.specs.Prelude.{◌<◌};
 
 use cards::refusal::Refusal;
 
-// The number above those of all entries.
-const ENTRIES: u16 = 1024;
+// How many entries there are at most.
+pub const ENTRIES: usize = 1024;
 
 // A number below 1,024. It is tested where it is made, and nowhere again.
 #[derive(Clone, Copy, PartialEq, Eq, Debug)]
@@ -21,7 +21,7 @@ impl TryFrom<u16> for EntryNumber {
     ghost try_from_gives = { EntryGiven };
 
     fn try_from(number: u16) -> Result<EntryNumber, Refusal> {
-        if number >= ENTRIES {
+        if usize::from(number) >= ENTRIES {
             return Err(Refusal::Entry);
         }
         Ok(EntryNumber { number })

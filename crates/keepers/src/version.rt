@@ -2,7 +2,7 @@
 use crate::search::BearsEntry;
 use cards::card::Card;
 
-#[derive(Clone, Copy, PartialEq, Eq, Debug)]
+#[derive(Clone, Copy, Default, PartialEq, Eq, Debug)]
 pub struct Version {
     pub entry: u16,
     pub time: u32,

@@ -2,12 +2,13 @@
 ghost use Rattle.linked.specs.Chain.{Sound, used_places};
 
 use crate::place::{FreePlaces, Place};
+use keepers::entry::ENTRIES;
 
 // The place of each entry's newest version: one for each entry there can be, since a keeper has no heap.
-pub(crate) type Heads = [Option<u16>; 1024];
+pub(crate) type Heads = [Option<u16>; ENTRIES];
 
-// The memory, whole, and the way into it. Places name places by number, since they stand in memory that is handed in and given back. Only the
-// first 65,536 are used, so that a number has 16 bits.
+// The memory, whole, and the way into it. A place leads to another by its number, since they stand in memory that is handed in and given
+// back. Only the first 65,536 are used, so that a number has 16 bits.
 #[derive(Drop)]
 pub struct Linked {
     pub(crate) places: Vec<Place>,

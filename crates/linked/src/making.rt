@@ -7,6 +7,7 @@ ghost use Rattle.linked.specs.View.{linked_kept, linked_places, linked_memory};
 
 use crate::keeper::{Heads, Linked};
 use crate::place::{FreePlaces, Place};
+use keepers::entry::ENTRIES;
 use keepers::memory::MOST_PLACES;
 
 // Makes the first n places free, each leading to the one before it, and gives them.
@@ -18,13 +19,10 @@ fn free_first(places: &mut [Place], n: usize) -> FreePlaces
     ensures count { result.count ≡ n }
     ensures rest { drop n places.new ≡ drop n places.old }
 {
-    let mut free = FreePlaces {
-        first: None,
-        count: 0,
-    };
+    let mut free = FreePlaces::default();
     for place in &mut places[..n] {
         *place = Place::freed(free);
-        // A place's number is how many places come before it, and all of those are free. A proved cast: `try_from` would want the same proof.
+        // A place's number is how many come before it, and all of those are free. A proved cast: `try_from` would want the same proof.
         free = FreePlaces {
             first: Some(free.count as u16),
             count: free.count + 1,
@@ -38,10 +36,10 @@ fn no_heads() -> Heads
     ensures bare { (e : ℕ) → slice_index_or result e None ≡ None }
     ensures len { length result ≡ 1024 }
 {
-    [None; 1024]
+    [None; ENTRIES]
 }
 
-// No trait says this for every keeper: the check can't give `new` the clauses of a trait, so each keeper would write them again.
+// No trait says this for every keeper: the check can't give `new` a trait's clauses, so each keeper would write them again.
 impl Linked {
     // A keeper of nothing, in the first 65,536 places of the memory.
     pub fn new(memory: Vec<Place>) -> Linked

@@ -12,7 +12,7 @@ pub(crate) struct Link {
 }
 
 // Free places: the first of them, and how many there are.
-#[derive(Clone, Copy)]
+#[derive(Clone, Copy, Default)]
 pub(crate) struct FreePlaces {
     pub(crate) first: Option<u16>,
     pub(crate) count: u32,
@@ -36,10 +36,7 @@ impl Place {
     pub fn empty() -> Place
         ensures { result ≡ empty_place }
     {
-        Place::freed(FreePlaces {
-            first: None,
-            count: 0,
-        })
+        Place::freed(FreePlaces::default())
     }
 
     // A place that holds a version.

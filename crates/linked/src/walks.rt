@@ -35,6 +35,7 @@ impl Linked {
             before: None,
             at: self.heads[usize::from(entry)],
         };
+        // No index: each step goes where the place before leads.
         while let Some(p) = reached.at {
             let link = self.link_at(p);
             if link.version.time <= time {

@@ -72,6 +72,7 @@ impl Keeper for Roll {
     }
 
     fn add(&mut self, version: Version) -> Result<(), Refusal> {
+        // Only tested: a roll has nothing for each entry.
         EntryNumber::try_from(version.entry)?;
         if self.spare() == 0 {
             return Err(Refusal::Full);

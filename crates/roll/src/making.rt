@@ -7,7 +7,7 @@ ghost use Rattle.roll.specs.View.{roll_kept, roll_places, roll_memory};
 use crate::keeper::Roll;
 use keepers::version::Version;
 
-// No trait says this for every keeper: the check can't give `new` the clauses of a trait, so each keeper would write them again.
+// No trait says this for every keeper: the check can't give `new` a trait's clauses, so each keeper would write them again.
 impl Roll {
     // A roll of no version. Nothing is written, and memory past the first 65,536 places is not used.
     #[tactic(auto, using(crate::proofs::Adds::rolled_none))]

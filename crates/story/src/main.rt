@@ -4,7 +4,6 @@
 mod scene;
 mod shown;
 
-use cards::card::Card;
 use keepers::keeper::Keeper;
 use keepers::memory::check_memory;
 use keepers::version::Version;
@@ -15,7 +14,7 @@ use std::io;
 
 const PLACES: usize = 4;
 
-// Plays the scene with a keeper that is made for it, and says how much memory it gives back.
+// Plays the scene with a keeper that is made for it, once its heading is printed, and says how much memory it gives back.
 fn play<K, M, B>(rt: &HostRuntime, name: &str, make: M, give_back: B) -> io::Result<()>
 where
     K: Keeper + Drop,
@@ -30,8 +29,7 @@ where
         keeper: make()?,
     };
     scene.tell()?;
-    let Scene { rt: _, keeper } = scene;
-    let places = give_back(keeper);
+    let places = give_back(scene.keeper);
     println!(rt; "memory of {places} places given back")
 }
 
@@ -45,15 +43,10 @@ fn main(rt: HostRuntime) -> io::Result<()> {
         || -> io::Result<Linked> { Ok(Linked::new(vec![in rt.alloc(); Place::empty(); PLACES]?)) },
         |keeper: Linked| keeper.into_memory().len(),
     )?;
-    let blank = Version {
-        entry: 0,
-        time: 0,
-        card: Card::blank(),
-    };
     play(
         &rt,
         "roll",
-        || -> io::Result<Roll> { Ok(Roll::new(vec![in rt.alloc(); blank; PLACES]?)) },
+        || -> io::Result<Roll> { Ok(Roll::new(vec![in rt.alloc(); Version::default(); PLACES]?)) },
         |keeper: Roll| keeper.into_memory().len(),
     )
 }

@@ -87,6 +87,7 @@ impl<K: Keeper> Scene<'_, K> {
         let Some(version) = self.keeper.find(MARK, time) else {
             return println!(rt; "nothing to pack");
         };
+        // The longest card; no heap for it.
         let mut out = [0u8; 13];
         let Ok(len) = pack(version.card, &mut out) else {
             return println!(rt; "no room to pack");

@@ -3,7 +3,7 @@ use Rattle.std.proofs.lemmas.Int.{to_z-of_z}
 use Rattle.cards.proofs.Fields.{two_read}
 use Rattle.cards.proofs.packing.take_field.Goals as goal
 
-pub returns-in-Some-clause-parts : goal.returns-in-Some-clause-parts
-returns-in-Some-clause-parts c =
+pub returns-then-present-clause-parts : goal.returns-then-present-clause-parts
+returns-then-present-clause-parts c =
     let f : FitsSigned w16 c.from_be_bytes.result = search rules in
     simp to_z-of_z (search (rules, two_read))
