@@ -2,7 +2,6 @@
 #![tactic(auto)]
 
 mod scene;
-mod shown;
 
 use cards::card::Card;
 use keepers::keeper::Keeper;
