@@ -5,5 +5,6 @@ pub mod card;
 pub mod kind;
 pub mod packing;
 pub mod refusal;
+mod shown;
 #[cfg(test)]
 mod tests;

@@ -120,3 +120,15 @@ fn numbers_and_words(rt: HostRuntime) {
     assert_eq!(rt; u8::from(Refusal::Map), 15);
     assert!(rt; Refusal::Order.word() == "order");
 }
+
+#[test]
+fn a_card_shown(rt: HostRuntime) -> Result<(), Fail> {
+    let text = full().to_string(rt.alloc())?;
+    assert_eq!(rt;
+        text.as_str(),
+        "advance 620, left bearing -1, anchor across -12, anchor up 32767, mark class 0, kern -32768"
+    );
+    let text = Card::blank().to_string(rt.alloc())?;
+    assert_eq!(rt; text.as_str(), "blank");
+    Ok(())
+}

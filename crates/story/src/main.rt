@@ -2,7 +2,6 @@
 #![tactic(auto)]
 
 mod scene;
-mod shown;
 
 use keepers::keeper::Keeper;
 use keepers::memory::check_memory;

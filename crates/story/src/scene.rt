@@ -1,5 +1,4 @@
 // What is done with the mark: a keeper is asked, and each answer is printed.
-use crate::shown::Shown;
 use cards::card::Card;
 use cards::packing::{pack, unpack};
 use keepers::keeper::Keeper;
@@ -29,8 +28,7 @@ impl<K: Keeper> Scene<'_, K> {
     fn add(&mut self, time: u32, across: i16) -> io::Result<()> {
         let rt = self.rt;
         let card = anchored(across);
-        let shown = Shown { card };
-        print!(rt; "add mark {MARK} at time {time}, {shown}: ")?;
+        print!(rt; "add mark {MARK} at time {time}, {card}: ")?;
         let version = Version {
             entry: MARK,
             time,
@@ -55,10 +53,7 @@ impl<K: Keeper> Scene<'_, K> {
         let rt = self.rt;
         print!(rt; "mark {MARK} as of time {time}: ")?;
         match self.keeper.find(MARK, time) {
-            Some(Version { time, card, .. }) => {
-                let shown = Shown { card };
-                println!(rt; "{shown}, since time {time}")
-            }
+            Some(Version { time, card, .. }) => println!(rt; "{card}, since time {time}"),
             None => println!(rt; "no card"),
         }
     }
@@ -98,10 +93,7 @@ impl<K: Keeper> Scene<'_, K> {
         }
         println!(rt; ", {len} bytes")?;
         match unpack(&out) {
-            Ok((card, _)) => {
-                let shown = Shown { card };
-                println!(rt; "unpack them: {shown}")
-            }
+            Ok((card, _)) => println!(rt; "unpack them: {card}"),
             Err(_) => println!(rt; "unpack them: declined"),
         }
     }
