@@ -1,4 +1,4 @@
-// The vocabulary that every part shares: the refusals, the cards and their kinds, and the packed form of a card.
+// The vocabulary that every part shares: the refusals, the cards with their kinds and their text, and the packed form of a card.
 #![tactic(auto)]
 
 pub mod card;

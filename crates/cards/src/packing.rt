@@ -63,6 +63,7 @@ pub fn pack(card: Card, out: &mut [u8]) -> Result<usize, Refusal>
     }
     // One byte; no call says it in fewer words.
     out[0] = map;
+    // Six steps, since a card is six named fields and no array.
     let at = put_field(out, 1, card.advance);
     let at = put_field(out, at, card.left_bearing);
     let at = put_field(out, at, card.anchor_across);
@@ -99,6 +100,7 @@ pub fn unpack(bytes: &[u8]) -> Result<(Card, &[u8]), Refusal>
     if bytes.len() < length_of(map) {
         return Err(Refusal::Short);
     }
+    // Six steps again, by the map and its halves, as the format is defined.
     let (advance, rest) = take_field(fields, map % 2 == 1);
     let (left_bearing, rest) = take_field(rest, map / 2 % 2 == 1);
     let (anchor_across, rest) = take_field(rest, map / 4 % 2 == 1);

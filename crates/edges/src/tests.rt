@@ -20,7 +20,7 @@ fn version(entry: u16, time: u32) -> Version {
     Version { entry, time, card }
 }
 
-// Each keeper is made in its own way, so there is a maker for each.
+// A maker for each, since no trait says how a keeper is made (`making.rt` of each).
 fn linked(heap: Global, places: usize) -> Result<Linked, AllocError> {
     Ok(Linked::new(vec![in heap; Place::empty(); places]?))
 }
@@ -29,7 +29,7 @@ fn roll(heap: Global, places: usize) -> Result<Roll, AllocError> {
     Ok(Roll::new(vec![in heap; version(0, 7); places]?))
 }
 
-// The time of the newest version up to a time, 0 without one: no version has that time.
+// The time of the newest version up to a time, 0 without one: no version has that time, so an `Option` is no plainer.
 fn found<K: Keeper>(keeper: &K, entry: u16, up_to: u32) -> u32 {
     keeper.find(entry, up_to).map_or(0, |v| v.time)
 }
@@ -131,6 +131,7 @@ fn more_memory_than_is_used(rt: HostRuntime) -> Result<(), Fail> {
 
 #[test]
 fn the_last_match(rt: HostRuntime) {
+    // Three lists, written out: no heap for them.
     let numbers: [u16; 4] = [3, 5, 3, 9];
     assert_eq!(rt; last_match(&numbers, 3, 0), Some(2));
     assert_eq!(rt; last_match(&numbers, 4, u32::MAX), None);

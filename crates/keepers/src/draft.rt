@@ -17,6 +17,7 @@ impl BearsEntry for Draft {
         self.entry
     }
 
+    // No time counts as time 0, which no version has; an `Option` would make one comparison two.
     fn time(&self) -> u32 {
         0
     }

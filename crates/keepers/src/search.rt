@@ -25,6 +25,7 @@ impl BearsEntry for u16 {
         *self
     }
 
+    // As a draft's.
     fn time(&self) -> u32 {
         0
     }

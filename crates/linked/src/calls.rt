@@ -63,7 +63,7 @@ impl Keeper for Linked {
     }
 
     fn remove(&mut self, entry: u16, time: u32) -> bool {
-        // Each test needs what the one before gave, and all three are used below.
+        // Each test needs what the one before gave, and all three are used below: closures would only carry them along.
         let Ok(entry) = EntryNumber::try_from(entry) else {
             return false;
         };

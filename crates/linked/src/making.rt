@@ -39,7 +39,8 @@ fn no_heads() -> Heads
     [None; ENTRIES]
 }
 
-// No trait says this for every keeper: the check can't give `new` a trait's clauses, so each keeper would write them again.
+// Tried as a trait, with the type of a place as its associated type: the check can't give `new` the trait's clauses, so each keeper
+// writes them again, and the trait says nothing once.
 impl Linked {
     // A keeper of nothing, in the first 65,536 places of the memory.
     pub fn new(memory: Vec<Place>) -> Linked

@@ -51,7 +51,7 @@ impl Linked {
 }
 
 // Lets what leads to a place of a chain, the place before it or the entry's head, lead on to the next. No method, since the keeper is not
-// sound in between.
+// sound in between; a type for what is handed in would serve one caller.
 pub(crate) fn unlink(
     places: &mut [Place],
     heads: &mut Heads,

@@ -4,7 +4,8 @@ ghost use Rattle.roll.specs.Arrivals.{closed};
 
 use keepers::version::Version;
 
-// Moves the versions after a place one place down, up to the last that is held. A slice, since the roll is not sound in between.
+// Moves the versions after a place one place down, up to the last that is held. A slice, since the roll is not sound in
+// between; a type for what is handed in would serve one caller.
 #[tactic(auto, using(crate::proofs::Gaps::closed_is))]
 pub(crate) fn close_gap(places: &mut [Version], at: usize, held: usize)
     requires inside { at < held }
