@@ -82,6 +82,7 @@ impl Keeper for Linked {
             reached.before,
             link.older,
         );
+        // The step of `free_first`: a method for both would have to ask in a clause that one more fits.
         self.places[usize::from(p)] = Place::freed(self.free);
         self.free = FreePlaces {
             first: Some(p),
