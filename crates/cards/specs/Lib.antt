@@ -1,6 +1,5 @@
 pub mod Cards
 pub mod Kinds
-pub mod Packed
 pub mod Refusals
 pub mod Shown
 pub mod Versions

@@ -1,5 +1,7 @@
-// Tests of both keepers at their edges, each written once over any keeper.
+// Tests at the edges: of cards and their forms, and of both keepers, each of these written once over any keeper.
 #![tactic(auto)]
 
 #[cfg(test)]
-mod tests;
+mod forms;
+#[cfg(test)]
+mod keeping;

@@ -7,9 +7,6 @@ use Rattle.keepers.specs.Kept.{add_refusal}
 use Rattle.keepers.specs.declared.version.Version.{Version}
 
 module _ (n : ℕ) (m : Kept) (v : Version) where
-  pub refuse_entry : 1024 ≤ v.entry → add_refusal n m v ≡ Some Entry
-  refuse_entry h = grind (arith, nat_tests)
-
   pub refuse_full : v.entry < 1024 → room n m ≡ 0 → add_refusal n m v ≡ Some Full
   refuse_full h z = grind (arith, nat_tests)
 

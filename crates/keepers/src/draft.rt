@@ -1,12 +1,6 @@
-// A draft: a card for an entry that has no time yet.
+// Drafts as the search sees them.
 use crate::search::BearsEntry;
-use cards::card::Card;
-
-#[derive(Clone, Copy, PartialEq, Eq, Debug)]
-pub struct Draft {
-    pub entry: u16,
-    pub card: Card,
-}
+use cards::draft::Draft;
 
 impl BearsEntry for Draft {
     ghost entry_of = { λ d. d.entry };

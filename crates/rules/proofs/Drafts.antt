@@ -4,7 +4,7 @@ use Rattle.std.proofs.lemmas.Bool.{cases_eq}
 use Rattle.std.proofs.lemmas.List.{get_or-set_same, get_or-set_other}
 use Rattle.cards.specs.declared.card.Card.{Card}
 use Rattle.cards.proofs.Somes.{some≢none}
-use Rattle.rules.specs.State.{Draft}
+use Rattle.cards.specs.declared.draft.Draft.{Draft}
 use Rattle.rules.specs.State.{Seat, idle, look, written, unput_of, unput_all}
 
 pub look_written : (ds : List Draft) (n : ℕ) (c : Card) (m : ℕ) → look (written ds n c) m ≡ cond (eqb m n) (Some c) (look ds m)

@@ -3,7 +3,7 @@ use Rattle.std.proofs.Common.{◌≡◌, ℕ, zero, suc, ◌+◌, ◌<◌, ◌�
 use Rattle.std.proofs.lemmas.Bool.{ltb-true, ltb-false}
 use Rattle.std.proofs.lemmas.List.{get_or_past}
 use Rattle.cards.specs.declared.card.Card.{Card}
-use Rattle.rules.specs.State.{Draft}
+use Rattle.cards.specs.declared.draft.Draft.{Draft}
 use Rattle.rules.specs.declared.stage.Stage.{Stage}
 use Rattle.rules.specs.declared.stage.Stage.TheVariants as stage
 use Rattle.cards.specs.declared.refusal.Refusal.TheVariants as why
@@ -36,7 +36,7 @@ use Rattle.rules.proofs.Collect.{collect_keeps}
 use Rattle.rules.proofs.Sizes.{step_size}
 
 -- ---- the invariant holds of every run
-get_or_all : {X : Type 0} (m k : ℕ) (x : X) → get_or (replicate m x) k x ≡ x
+pub get_or_all : {X : Type 0} (m k : ℕ) (x : X) → get_or (replicate m x) k x ≡ x
 get_or_all zero k x = refl
 get_or_all (suc m) zero x = refl
 get_or_all (suc m) (suc k) x = get_or_all m k x

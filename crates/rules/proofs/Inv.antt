@@ -3,12 +3,13 @@ use Rattle.std.proofs.Common.{◌≡◌, ℕ, ◌<◌, ◌≤◌, Bool, true, fa
 use Rattle.std.proofs.lemmas.List.{length-drop}
 use Rattle.rules.proofs.Options.{nothing, same_option}
 use Rattle.cards.specs.declared.card.Card.{Card}
-use Rattle.rules.specs.State.{Draft}
+use Rattle.cards.specs.declared.draft.Draft.{Draft}
 use Rattle.rules.specs.declared.stage.Stage.{Stage}
 use Rattle.rules.specs.declared.stage.Stage.TheVariants as stage
 use Rattle.cards.specs.Versions.{Kept}
 use Rattle.cards.specs.Cards.{blank_card}
-use Rattle.rules.specs.State.{Seat, idle, Row, State, size, seat, row, look, has, latest, ready, unput_all, Lawful}
+use Rattle.rules.specs.declared.row.Row.{Row}
+use Rattle.rules.specs.State.{Seat, idle, State, size, seat, row, look, has, latest, ready, unput_all, Lawful}
 use Rattle.rules.specs.Account.{Desk, Free, Reading, Drafting, Given, Account, card_after}
 use Rattle.rules.specs.Law.{All}
 use Rattle.cards.proofs.Somes.{some≢none}

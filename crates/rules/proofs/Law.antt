@@ -1,7 +1,7 @@
 -- The law, from its form event by event.
 use Rattle.std.proofs.Common.{◌≡◌, ℕ, ◌<◌, ◌≤◌, Bool, false, cond, List, [], ◌∷◌, ◌++◌, Some, None, Ok, Err, Option, refl, ap, subst, arith}
 use Rattle.cards.specs.declared.card.Card.{Card}
-use Rattle.rules.specs.State.{Draft}
+use Rattle.cards.specs.declared.draft.Draft.{Draft}
 use Rattle.cards.specs.declared.refusal.Refusal.{Refusal}
 use Rattle.rules.specs.declared.call.Call.{Call}
 use Rattle.rules.specs.declared.call.Call.TheVariants as call
@@ -16,6 +16,7 @@ use Rattle.rules.specs.Law.{All, SameEdit, Open, EditsThere, form_of, HasForm, L
 use Rattle.rules.proofs.Fair.{Fair, Honest, From, Stood, RightCard}
 use Rattle.rules.proofs.Honest.{reached_honest}
 use Rattle.rules.proofs.Swept.{swept}
+use Rattle.rules.proofs.Holding.{reached_holds}
 
 -- the event in question
 fair_at : (N : ℕ) (w : ℕ → ℕ → Option Card) (later : List Event) (v : Event) (earlier : List Event) → Honest N w (later ++ (v ∷ earlier)) → Fair N w v.call v.answer earlier
@@ -99,6 +100,7 @@ law_holds_lem h s r = record {
   read_needs_open = λ later earlier k n c e. open_read (account h).wrote n c ((account earlier).desk k) (at later (event (call.Read k n) (Ok (answer.Card c))) earlier e);
   stamp_needs_edit = λ later earlier k t e. stood_edits (account h).wrote t (saw earlier k) ((account earlier).desk k) (at later (event (call.Stamp k) (Ok (answer.Number t))) earlier e).1;
   answer_has_form = λ later earlier c a e. each_at (λ (v : Event). HasForm (form_of v.call) v.answer) later (event c a) earlier (rw e at (reached_forms r));
+  locks_are_of_drafts = reached_holds r;
   declined_changes_nothing = declined_same s;
   clock_ends = reached_clock r;
 }

@@ -21,6 +21,7 @@ pub mod Collect
 pub mod Sizes
 pub mod Honest
 pub mod Swept
+pub mod Holding
 pub mod Places
 pub mod Runs
 pub mod Fair

@@ -1,6 +1,7 @@
 -- Lock keeps the invariant.
 use Rattle.std.proofs.Common.{◌≡◌, ℕ, ◌<◌, Bool, true, false, cond, List, map, length, Ok, Err, refl, ap, ◌∙◌}
-use Rattle.rules.specs.State.{Row, State, seat, any_held, entry_of, taken, with_seat, with_rows}
+use Rattle.rules.specs.declared.row.Row.{Row}
+use Rattle.rules.specs.State.{State, seat, any_held, entry_of, taken, with_seat, with_rows}
 use Rattle.rules.specs.declared.stage.Stage.{Stage}
 use Rattle.rules.specs.declared.stage.Stage.TheVariants as stage
 use Rattle.cards.specs.declared.refusal.Refusal.TheVariants as why

@@ -15,4 +15,4 @@ lawful places = record {
 
 -- there are new stores
 pub new_stores_stand_lem : NewStoresStand
-new_stores_stand_lem l m p places small = record { small = small; seats = refl; rows = refl; clock = refl; kept = λ n t. refl; lawful = lawful places }
+new_stores_stand_lem l m p places held small none = record { small = small; seats = refl; rows = refl; clock = refl; kept = none; lawful = lawful places }

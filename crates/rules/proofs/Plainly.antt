@@ -6,7 +6,9 @@ use Rattle.cards.specs.declared.refusal.Refusal.TheVariants as why
 use Rattle.rules.specs.declared.answer.Answer.{Answer}
 use Rattle.rules.specs.declared.call.Call.{Call}
 use Rattle.rules.specs.Rules.{in_seat}
-use Rattle.rules.specs.State.{Draft, Seat, Row, State, size, seat, row, ready, with_seat, with_rows}
+use Rattle.cards.specs.declared.draft.Draft.{Draft}
+use Rattle.rules.specs.declared.row.Row.{Row}
+use Rattle.rules.specs.State.{Seat, State, size, seat, row, ready, with_seat, with_rows}
 use Rattle.rules.specs.declared.stage.Stage.{Stage}
 use Rattle.cards.specs.Versions.{Kept}
 use Rattle.rules.specs.Runs.{Event, event, told}

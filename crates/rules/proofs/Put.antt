@@ -3,7 +3,9 @@ use Rattle.std.proofs.Common.{◌≡◌, ℕ, suc, ◌+◌, ◌<◌, ◌≤◌, 
 use Rattle.std.proofs.lemmas.Bool.{cases_eq, eq-eqb}
 use Rattle.std.proofs.lemmas.List.{get_or-set_same, get_or-set_other, length-set, drop-drop}
 use Rattle.cards.specs.declared.card.Card.{Card}
-use Rattle.rules.specs.State.{Draft, ready_of, Seat, idle, Row, free_row, State, size, seat, row, look, ready, unput_all}
+use Rattle.cards.specs.declared.draft.Draft.{Draft}
+use Rattle.rules.specs.declared.row.Row.{Row}
+use Rattle.rules.specs.State.{ready_of, Seat, idle, free_row, State, size, seat, row, look, ready, unput_all}
 use Rattle.rules.specs.declared.stage.Stage.{Stage}
 use Rattle.rules.specs.declared.stage.Stage.TheVariants as stage
 use Rattle.rules.specs.declared.call.Call.TheVariants as call

@@ -4,7 +4,8 @@ use mathlib.Core.Path.{fun_ext}
 use Rattle.std.proofs.lemmas.Bool.{eq-eqb, ltb-false}
 use Rattle.std.proofs.lemmas.List.{set-get_or}
 use Rattle.cards.specs.declared.card.Card.{Card}
-use Rattle.rules.specs.State.{Draft, idle, State, size, seat, row, look, has, other, latest, with_seat}
+use Rattle.cards.specs.declared.draft.Draft.{Draft}
+use Rattle.rules.specs.State.{idle, State, size, seat, row, look, has, other, latest, with_seat}
 use Rattle.rules.specs.declared.stage.Stage.{Stage}
 use Rattle.rules.specs.declared.stage.Stage.TheVariants as stage
 use Rattle.cards.specs.declared.refusal.Refusal.{Refusal}

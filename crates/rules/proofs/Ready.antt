@@ -1,6 +1,6 @@
 -- The ready point and the floor.
 use Rattle.std.proofs.Common.{◌≡◌, ℕ, zero, suc, ◌-◌, ◌<◌, ◌≤◌, List, [], ◌∷◌, length, get_or, set, refl, ◌∙◌, arith}
-use Rattle.rules.specs.State.{Draft}
+use Rattle.cards.specs.declared.draft.Draft.{Draft}
 use Rattle.rules.specs.declared.stage.Stage.{Stage}
 use Rattle.rules.specs.declared.stage.Stage.TheVariants as stage
 use Rattle.rules.specs.State.{Seat, idle, bound, ready_of, lower, floor_of}

@@ -2,11 +2,12 @@
 use Rattle.std.proofs.Common.{◌≡◌, ℕ, ◌<◌, ◌≤◌, Bool, true, ◌⊎◌, List, [], ◌∷◌, length, get_or, set, Some, refl, ◌∙◌, inl, inr, arith}
 use Rattle.std.proofs.lemmas.Bool.{cases_eq}
 use Rattle.std.proofs.lemmas.List.{get_or-set_other, length-set}
-use Rattle.rules.specs.State.{Draft}
+use Rattle.cards.specs.declared.draft.Draft.{Draft}
 use Rattle.rules.specs.declared.stage.Stage.{Stage}
 use Rattle.rules.specs.declared.stage.Stage.TheVariants as stage
 use Rattle.cards.specs.Versions.{Kept}
-use Rattle.rules.specs.State.{Seat, idle, Row, free_row, State, size, seat, row, ready, ready_of, unput_of, with_seat, with_rows}
+use Rattle.rules.specs.declared.row.Row.{Row}
+use Rattle.rules.specs.State.{Seat, idle, free_row, State, size, seat, row, ready, ready_of, unput_of, with_seat, with_rows}
 use Rattle.rules.specs.Account.{Desk, Account}
 use Rattle.rules.specs.Law.{All}
 use Rattle.rules.proofs.Drafts.{all_set, unput_set}

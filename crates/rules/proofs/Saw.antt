@@ -2,7 +2,7 @@
 use Rattle.std.proofs.Common.{ℕ, cond, eqb, List, [], ◌∷◌, Some, None, Ok, Option, Result}
 use Rattle.cards.specs.declared.card.Card.{Card}
 use Rattle.cards.specs.declared.refusal.Refusal.{Refusal}
-use Rattle.rules.specs.State.{Draft}
+use Rattle.cards.specs.declared.draft.Draft.{Draft}
 use Rattle.rules.specs.declared.call.Call.{Call}
 use Rattle.rules.specs.declared.call.Call.TheVariants as call
 use Rattle.rules.specs.declared.answer.Answer.{Answer}

@@ -3,7 +3,8 @@ use Rattle.std.proofs.Common.{◌≡◌, ℕ, suc, ◌+◌, ◌<◌, ◌≤◌, 
 use Rattle.std.proofs.lemmas.Bool.{cases_eq, eq-eqb, ne_eqb, ltb-false}
 use Rattle.std.proofs.lemmas.List.{get_or-set_same, get_or-set_other, length-set}
 use Rattle.cards.specs.declared.card.Card.{Card}
-use Rattle.rules.specs.State.{Draft, with_clock, ready_of, Seat, idle, State, size, seat, row, look, any_held, any_stale, ready, unput_all, with_seat}
+use Rattle.cards.specs.declared.draft.Draft.{Draft}
+use Rattle.rules.specs.State.{with_clock, ready_of, Seat, idle, State, size, seat, row, look, any_held, any_stale, ready, unput_all, with_seat}
 use Rattle.rules.specs.declared.stage.Stage.{Stage}
 use Rattle.rules.specs.declared.stage.Stage.TheVariants as stage
 use Rattle.cards.specs.declared.refusal.Refusal.{Refusal}

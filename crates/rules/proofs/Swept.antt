@@ -93,9 +93,6 @@ module _ (h : List Event) (s : State) (i : Inv h s) (q : Quiet (account h)) wher
           inr (t, (c, wrote), held ∙ ap (λ (x : Card). Some x) right, λ u ne. nothing (s.kept n u) (λ d p. ne (single inside.2 u t d c p held)))
 
 -- ---- collects alone
-collect_fewer : (s : State) (m n t : ℕ) (c : Card) → (step s (call.Collect m)).0.kept n t ≡ Some c → s.kept n t ≡ Some c
-collect_fewer s m n t c e = grind arith
-
 account_collect : (a : Account) (c : Call) (b : Bool) (x : ℕ) → IsCollect c → cond b (fed a c x) a ≡ a
 account_collect a c b x w = grind arith
 

@@ -12,9 +12,6 @@ cases_two n t f u = grind arith
 pub with_same : (m : Kept) (n t : ℕ) (c : Card) (f u : ℕ) → f ≡ n → u ≡ t → with_card m n t c f u ≡ Some c
 with_same m n t c f u a b = grind arith
 
-pub without_same : (m : Kept) (n t f u : ℕ) → f ≡ n → u ≡ t → without m n t f u ≡ None
-without_same m n t f u a b = grind arith
-
 -- a time found is above t, up to u, and has a version
 pub after_some : (m : ℕ → Option Card) (t u f : ℕ) → after m t u ≡ Some f → (t < f) × (f ≤ u) × ((c : Card) × (m f ≡ Some c))
 after_some m t zero f h = absurd (some≢none _ f h refl)

@@ -1,16 +1,19 @@
 -- The law: what proofs and edits saw in a run fits the stamped edits, run one at a time.
-use Rattle.std.specs.Prelude.{◌≡◌, ℕ, ◌+◌, ◌<◌, ◌≤◌, true, false, ◌⊎◌, List, [], ◌∷◌, ◌++◌, Some, None, Ok, Err, Option, Result, ◌≢◌}
+use Rattle.std.specs.Prelude.{◌≡◌, ℕ, ◌+◌, ◌<◌, ◌≤◌, Bool, true, false, ◌⊎◌, List, [], ◌∷◌, ◌++◌, drop, is_some, Some, None, Ok, Err, Option, Result, ◌≢◌}
 use Rattle.std.specs.Option.{unwrap_or}
 use Rattle.cards.specs.declared.card.Card.{Card}
+use Rattle.cards.specs.declared.draft.Draft.{Draft}
 use Rattle.cards.specs.declared.refusal.Refusal.{Refusal}
 use Rattle.cards.specs.declared.refusal.Refusal.TheVariants as why
 use Rattle.rules.specs.Account.{Desk, Free, Reading, Drafting, Given, Account, account, granted, card_after}
 use Rattle.rules.specs.Runs.{Event, event, step, Reached, answers, play, events}
-use Rattle.rules.specs.State.{State, size, Fresh}
+use Rattle.rules.specs.State.{State, size, seat, row, look, Fresh}
 use Rattle.rules.specs.declared.answer.Answer.{Answer}
 use Rattle.rules.specs.declared.answer.Answer.TheVariants as answer
 use Rattle.rules.specs.declared.call.Call.{Call}
 use Rattle.rules.specs.declared.call.Call.TheVariants as call
+use Rattle.rules.specs.declared.stage.Stage.{Stage}
+use Rattle.rules.specs.declared.stage.Stage.TheVariants as stage
 
 -- ---- words that the law uses; events stand newest first
 
@@ -80,6 +83,14 @@ OneLeft a m n =
     (((t : ℕ) → a.wrote t n ≡ None) × ((t : ℕ) → m t ≡ None))
     ⊎ ((t : ℕ) × ((c : Card) × (a.wrote t n ≡ Some c)) × (m t ≡ Some (card_after a.wrote a.last n)) × ((u : ℕ) → (u ≢ t) → m u ≡ None))
 
+-- a seat's edit holds the lock of the entry n: it is locked and drafted it, or stamped and has not put it yet
+abbrev pub holds_lock : List Draft → Stage → ℕ → Bool
+holds_lock ds stage.Idle n = false
+holds_lock ds (stage.Proof t) n = false
+holds_lock ds (stage.Edit t) n = false
+holds_lock ds (stage.Locked t) n = is_some (look ds n)
+holds_lock ds (stage.Stamped t p) n = is_some (look (drop p ds) n)
+
 -- ---- the form of an answer
 
 -- what a granted call gives: a number, a card, or nothing more
@@ -140,6 +151,8 @@ pub record Law (h : List Event) (s : State) : Type 0 where
   pub answer_has_form : (later earlier : List Event) (c : Call) (a : Result Answer Refusal) → Happened h later c a earlier → HasForm (form_of c) a
   -- put is declined only by Seat or Stage: the keeper takes every draft
   pub put_is_taken : (later earlier : List Event) (k : ℕ) (r : Refusal) → Happened h later (call.Put k) (Err r) earlier → (r ≡ why.Seat) ⊎ (r ≡ why.Stage)
+  -- an entry is locked only by an edit that holds its lock; so an edit that is dropped or settled leaves no lock
+  pub locks_are_of_drafts : (n k : ℕ) → (row s n).lock ≡ Some k → holds_lock (seat s k).drafts (seat s k).stage n ≡ true
   -- a call that is declined leaves the state as it was
   pub declined_changes_nothing : (c : Call) (r : Refusal) → (step s c).1 ≡ Err r → (step s c).0 ≡ s
   -- the clock never passes 1,000,000, so that stamp is declined by Clock exactly there

@@ -9,7 +9,8 @@ use Rattle.cards.specs.declared.refusal.Refusal.TheVariants as why
 use Rattle.cards.specs.Versions.{with_card, without}
 use Rattle.cards.specs.Cards.{blank_card, map_of}
 use Rattle.cards.specs.Kinds.{letter_map, mark_map, pair_map, fits_in}
-use Rattle.rules.specs.State.{Draft, Seat, idle, State, size, seat, row, look, written, has, other, any_held, any_stale, entry_of, taken, released, latest, after, ready, floor, unput_all, with_seat, with_rows, with_clock, with_kept}
+use Rattle.cards.specs.declared.draft.Draft.{Draft}
+use Rattle.rules.specs.State.{Seat, idle, State, size, seat, row, look, written, has, other, any_held, any_stale, entry_of, taken, released, latest, after, ready, floor, unput_all, with_seat, with_rows, with_clock, with_kept}
 
 -- A rule that names a seat goes by the seat's stage, in the definition that ends in _at.
 

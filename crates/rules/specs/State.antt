@@ -2,14 +2,11 @@
 use Rattle.std.specs.Prelude.{◌≡◌, ℕ, zero, suc, ◌+◌, ◌-◌, ◌<◌, ◌≤◌, min, Bool, true, false, cond, not, ◌||◌, List, [], ◌∷◌, length, get_or, drop, replicate, is_some, Some, None, Option, ◌==◌, nat_lt, slice_index_or, slice_set}
 use Rattle.cards.specs.Versions.{Kept, with_card, without}
 use Rattle.cards.specs.declared.card.Card.{Card}
+use Rattle.cards.specs.declared.draft.Draft.{Draft}
+use Rattle.rules.specs.declared.row.Row.{Row}
 use Rattle.rules.specs.declared.stage.Stage.{Stage}
 use Rattle.rules.specs.declared.stage.Stage.TheVariants as stage
 use Rattle.cards.specs.declared.refusal.Refusal.{Refusal}
-
--- a card that an edit has written for an entry
-pub record Draft : Type 0 where
-  pub entry : ℕ
-  pub card : Card
 
 -- a seat: its stage, and the reading list and the drafts of its edit, both in order of arrival
 pub record Seat : Type 0 where
@@ -21,12 +18,7 @@ pub record Seat : Type 0 where
 abbrev pub idle : Seat
 idle = record { stage = stage.Idle; reads = []; drafts = [] }
 
--- what is known of an entry: the time of its newest version that was put, 0 if none, and the seat that has it locked
-pub record Row : Type 0 where
-  pub time : ℕ
-  pub lock : Option ℕ
-
--- at first none was put and none has it locked
+-- the row of an entry at first: none was put and none has it locked
 abbrev pub free_row : Row
 free_row = record { time = 0; lock = None }
 

@@ -2,7 +2,7 @@
 use Rattle.std.specs.Prelude.{◌≡◌, ℕ, zero, suc, ◌+◌, ◌-◌, cond, List, [], ◌∷◌, replicate, pos, negsuc, is_some, Some, None, Ok, Err, Option, Result, ◌==◌}
 use Rattle.std.specs.Option.{option_map}
 use Rattle.cards.specs.Cards.{blank_card}
-use Rattle.cards.specs.Packed.{packed, unpack_refusal}
+use Rattle.packed.specs.Packed.{packed, unpack_refusal}
 use Rattle.cards.specs.Refusals.{number_of}
 use Rattle.cards.specs.Versions.{Kept}
 use Rattle.cards.specs.declared.card.Card.{Card}

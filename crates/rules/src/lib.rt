@@ -3,5 +3,6 @@
 
 pub mod answer;
 pub mod call;
+pub mod row;
 pub mod stage;
 pub mod theorems;

@@ -1,51 +1,55 @@
-// A designer moves the anchor of a mark three times; each keeper in turn holds the cards, and every action is printed.
+// A designer moves a mark's anchor and a pair's kern in one edit while proofs are read. The story is played over each keeper in
+// turn, and every action is printed.
 #![tactic(auto)]
 
-mod scene;
+mod scenes;
+mod teller;
 
 use keepers::keeper::Keeper;
-use keepers::memory::check_memory;
 use keepers::version::Version;
 use linked::{Linked, Place};
 use roll::Roll;
-use scene::Scene;
 use std::io;
+use store::store::Store;
+use table::making::check;
+use table::sizes::Sizes;
+use teller::Teller;
 
-const PLACES: usize = 4;
+// Room for the three first cards, the two new ones, and one more.
+const PLACES: usize = 6;
 
-// Plays the scene with a keeper that is made for it, once its heading is printed, and says how much memory it gives back.
-fn play<K, M, B>(rt: &HostRuntime, name: &str, make: M, give_back: B) -> io::Result<()>
+// Plays the story on a new store over a keeper that is made for it, and says what the keeper holds in the end.
+fn play<K, M>(rt: &HostRuntime, name: &str, sizes: Sizes, make: M) -> io::Result<()>
 where
     K: Keeper + Drop,
     M: FnOnce() -> io::Result<K>,
-    B: FnOnce(K) -> usize + Drop,
-    requires make { M.IsAlwaysCallable make }
-    requires back { B.IsAlwaysCallable give_back }
+    requires { M.IsAlwaysCallable make }
 {
     println!(rt; "The {name} keeper, {PLACES} places")?;
-    let mut scene = Scene {
+    let mut teller = Teller {
         rt,
-        keeper: make()?,
+        store: Store::new(make()?, sizes),
     };
-    scene.tell()?;
-    let places = give_back(scene.keeper);
-    println!(rt; "memory of {places} places given back")
+    teller.tell()?;
+    let keeper = teller.store.into_keeper();
+    let held = keeper.held();
+    let spare = keeper.spare();
+    println!(rt; "the keeper holds {held} versions and has {spare} places to spare")
 }
 
 fn main(rt: HostRuntime) -> io::Result<()> {
-    if check_memory(PLACES).is_err() {
-        return println!(rt; "more memory than a keeper uses");
+    let sizes = Sizes {
+        letters: 1,
+        marks: 1,
+        pairs: 1,
+    };
+    if check(sizes, PLACES).is_err() {
+        return println!(rt; "no store has these sizes");
     }
-    play(
-        &rt,
-        "linked",
-        || -> io::Result<Linked> { Ok(Linked::new(vec![in rt.alloc(); Place::empty(); PLACES]?)) },
-        |keeper: Linked| keeper.into_memory().len(),
-    )?;
-    play(
-        &rt,
-        "roll",
-        || -> io::Result<Roll> { Ok(Roll::new(vec![in rt.alloc(); Version::default(); PLACES]?)) },
-        |keeper: Roll| keeper.into_memory().len(),
-    )
+    play(&rt, "linked", sizes, || -> io::Result<Linked> {
+        Ok(Linked::new(vec![in rt.alloc(); Place::empty(); PLACES]?))
+    })?;
+    play(&rt, "roll", sizes, || -> io::Result<Roll> {
+        Ok(Roll::new(vec![in rt.alloc(); Version::default(); PLACES]?))
+    })
 }

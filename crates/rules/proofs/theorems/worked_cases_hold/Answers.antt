@@ -1,5 +1,5 @@
 use Rattle.std.proofs.Common.{refl}
-use Rattle.cards.specs.Packed.{standing, packed}
+use Rattle.packed.specs.Packed.{standing, packed}
 use Rattle.rules.proofs.theorems.worked_cases_hold.Goals as goal
 
 pub returns : goal.returns
