@@ -21,11 +21,11 @@ fn version(entry: u16, time: u32) -> Version {
 }
 
 // A maker for each, since no trait says how a keeper is made (`making.rt` of each).
-fn linked(heap: Global, places: usize) -> Result<Linked, AllocError> {
+pub(crate) fn linked(heap: Global, places: usize) -> Result<Linked, AllocError> {
     Ok(Linked::new(vec![in heap; Place::empty(); places]?))
 }
 
-fn roll(heap: Global, places: usize) -> Result<Roll, AllocError> {
+pub(crate) fn roll(heap: Global, places: usize) -> Result<Roll, AllocError> {
     Ok(Roll::new(vec![in heap; version(0, 7); places]?))
 }
 

@@ -2,7 +2,7 @@
 use Rattle.std.proofs.Common.{◌≡◌, ℕ, ◌<◌, ◌≤◌, Some, None, arith}
 use Rattle.std.proofs.lemmas.Bool.Decides.{nat_tests}
 use Rattle.cards.specs.Versions.{Kept, room, newest_time}
-use Rattle.cards.specs.declared.refusal.Refusal.TheVariants.{Entry, Full, Order}
+use Rattle.cards.specs.declared.refusal.Refusal.TheVariants.{Full, Order}
 use Rattle.keepers.specs.Kept.{add_refusal}
 use Rattle.keepers.specs.declared.version.Version.{Version}
 

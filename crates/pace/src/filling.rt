@@ -1,7 +1,8 @@
-// Fills a store with versions, by its own calls.
+// Fills a store with versions, by its own calls. It has a seat and places for them, so none of these calls is declined; the
+// program tells how many versions came to be held.
 use cards::card::Card;
 use keepers::keeper::Keeper;
-use store::store::Store;
+use store::Store;
 
 pub fn letter(advance: i16) -> Card {
     Card {

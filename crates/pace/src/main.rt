@@ -1,5 +1,5 @@
 // How long the calls of a store take over the linked keeper. Alone the program makes each call a few times, and prints how many
-// were granted; with the word `time` it makes many, and prints how long each took.
+// were granted; with any word behind its name it makes many, and prints how long each took.
 #![tactic(auto)]
 
 mod filling;
@@ -13,9 +13,7 @@ use rounds::{Pace, repeat};
 use rules::call::Call;
 use std::mem::size_of;
 use std::{env, io};
-use store::store::Store;
-use table::sizes::Sizes;
-use table::table::Table;
+use store::{Sizes, Store};
 
 fn opened(rt: &HostRuntime, letters: usize, places: usize) -> io::Result<Store<Linked>> {
     let sizes = Sizes {
@@ -29,66 +27,55 @@ fn opened(rt: &HostRuntime, letters: usize, places: usize) -> io::Result<Store<L
     ))
 }
 
-// The short calls on entry 0 of a store, of which entry 0 has one version.
-fn short_calls(rt: &HostRuntime, store: &mut Store<Linked>, pace: Pace) -> io::Result<()> {
+// The calls that begin and give up.
+fn openings(rt: &HostRuntime, store: &mut Store<Linked>, pace: Pace) -> io::Result<()> {
+    let seat = 1;
+    let proof = [Call::Proof { seat }, Call::End { seat }];
+    repeat(rt, store, pace, "proof, end", &proof)?;
+    let edit = [Call::Edit { seat }, Call::Drop { seat }];
+    repeat(rt, store, pace, "edit, drop", &edit)
+}
+
+// What a proof and an edit ask of entry 0.
+fn reads_and_writes(rt: &HostRuntime, store: &mut Store<Linked>, pace: Pace) -> io::Result<()> {
+    let seat = 3;
+    let entry = 0;
     let card = letter(620);
-    repeat(
-        rt,
-        store,
-        pace,
-        "proof, end",
-        &[Call::Proof { seat: 1 }, Call::End { seat: 1 }],
-    )?;
-    repeat(
-        rt,
-        store,
-        pace,
-        "edit, drop",
-        &[Call::Edit { seat: 1 }, Call::Drop { seat: 1 }],
-    )?;
     let _ = store.proof(2);
-    repeat(
-        rt,
-        store,
-        pace,
-        "a proof's read",
-        &[Call::Read { seat: 2, entry: 0 }],
-    )?;
+    let read = [Call::Read { seat: 2, entry }];
+    repeat(rt, store, pace, "a proof's read", &read)?;
     let _ = store.end(2);
-    let _ = store.edit(3);
-    repeat(
-        rt,
-        store,
-        pace,
-        "an edit's read",
-        &[Call::Read { seat: 3, entry: 0 }],
-    )?;
-    repeat(
-        rt,
-        store,
-        pace,
-        "write",
-        &[Call::Write {
-            seat: 3,
-            entry: 0,
-            card,
-        }],
-    )?;
-    let _ = store.drop_edit(3);
+    let _ = store.edit(seat);
+    let read = [Call::Read { seat, entry }];
+    repeat(rt, store, pace, "an edit's read", &read)?;
+    let write = [Call::Write { seat, entry, card }];
+    repeat(rt, store, pace, "write", &write)?;
+    let _ = store.drop_edit(seat);
+    Ok(())
+}
+
+// A whole save of one draft of entry 0, and the collect of the version before it.
+fn whole_save(rt: &HostRuntime, store: &mut Store<Linked>, pace: Pace) -> io::Result<()> {
+    let seat = 4;
+    let entry = 0;
+    let card = letter(620);
     let whole = [
-        Call::Edit { seat: 4 },
-        Call::Write {
-            seat: 4,
-            entry: 0,
-            card,
-        },
-        Call::Lock { seat: 4 },
-        Call::Stamp { seat: 4 },
-        Call::Put { seat: 4 },
-        Call::Settle { seat: 4 },
-        Call::Collect { entry: 0 },
+        Call::Edit { seat },
+        Call::Write { seat, entry, card },
+        Call::Lock { seat },
+        Call::Stamp { seat },
+        Call::Put { seat },
+        Call::Settle { seat },
+        Call::Collect { entry },
     ];
     repeat(rt, store, pace, "a whole edit and a collect", &whole)
+}
+
+// The short calls on entry 0 of a store that has one version of it.
+fn short_calls(rt: &HostRuntime, store: &mut Store<Linked>, pace: Pace) -> io::Result<()> {
+    openings(rt, store, pace)?;
+    reads_and_writes(rt, store, pace)?;
+    whole_save(rt, store, pace)
 }
 
 // A proof's read of an entry that has got so many versions since the proof began.
@@ -107,7 +94,7 @@ fn deep_read(rt: &HostRuntime, later: u32, pace: Pace) -> io::Result<()> {
     )
 }
 
-// An edit that drafts so many entries, locks them and is dropped.
+// An edit that drafts so many entries and is dropped, without its lock and with it.
 fn locking(rt: &HostRuntime, drafts: u16, pace: Pace) -> io::Result<()> {
     let mut store = opened(rt, 1024, 16)?;
     let mut calls = Vec::new(rt.alloc());
@@ -119,9 +106,18 @@ fn locking(rt: &HostRuntime, drafts: u16, pace: Pace) -> io::Result<()> {
             card: letter(600),
         })?;
     }
+    calls.push(Call::Drop { seat: 0 })?;
+    println!(rt; "drafts: {drafts}")?;
+    repeat(
+        rt,
+        &mut store,
+        pace,
+        "edit, the writes, drop",
+        calls.as_slice(),
+    )?;
+    let _ = calls.pop();
     calls.push(Call::Lock { seat: 0 })?;
     calls.push(Call::Drop { seat: 0 })?;
-    print!(rt; "{drafts} drafts, ")?;
     repeat(
         rt,
         &mut store,
@@ -131,7 +127,7 @@ fn locking(rt: &HostRuntime, drafts: u16, pace: Pace) -> io::Result<()> {
     )
 }
 
-// An edit that reads so many entries and is stamped.
+// An edit that reads so many entries, without its stamp and with it.
 fn stamping(rt: &HostRuntime, reads: u16, pace: Pace) -> io::Result<()> {
     let mut store = opened(rt, 1024, 16)?;
     let mut calls = Vec::new(rt.alloc());
@@ -140,9 +136,18 @@ fn stamping(rt: &HostRuntime, reads: u16, pace: Pace) -> io::Result<()> {
         calls.push(Call::Read { seat: 0, entry })?;
     }
     calls.push(Call::Lock { seat: 0 })?;
+    calls.push(Call::Drop { seat: 0 })?;
+    println!(rt; "reads: {reads}")?;
+    repeat(
+        rt,
+        &mut store,
+        pace,
+        "edit, the reads, lock, drop",
+        calls.as_slice(),
+    )?;
+    let _ = calls.pop();
     calls.push(Call::Stamp { seat: 0 })?;
     calls.push(Call::Settle { seat: 0 })?;
-    print!(rt; "{reads} reads, ")?;
     repeat(
         rt,
         &mut store,
@@ -158,9 +163,9 @@ fn main(rt: HostRuntime) -> io::Result<()> {
         timed,
         rounds: if timed { 50000 } else { 10 },
     };
-    let table = size_of::<Table>();
+    let keeper = size_of::<Linked>();
     let store = size_of::<Store<Linked>>();
-    println!(rt; "a table has {table} bytes, a store over a linked keeper {store}")?;
+    println!(rt; "a store over a linked keeper has {store} bytes, {keeper} of them the keeper's")?;
     println!(rt; "4 entries, 4 versions")?;
     let mut small = opened(&rt, 4, 65536)?;
     fill(&mut small, 4, 1);

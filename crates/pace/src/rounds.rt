@@ -3,7 +3,7 @@ use keepers::keeper::Keeper;
 use rules::call::Call;
 use std::io;
 use std::time::Instant;
-use store::store::Store;
+use store::Store;
 
 // How often, and whether the time is printed.
 #[derive(Clone, Copy)]

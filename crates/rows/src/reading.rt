@@ -1,16 +1,10 @@
-// What rows say of entries.
-ghost use Rattle.std.specs.Prelude.{◌≡◌, map, slice_index_or};
-ghost use Rattle.rules.specs.State.{free_row, other, any_held, any_stale};
+// Which entries are locked by another seat, and which have a newer version.
+ghost use Rattle.std.specs.Prelude.{◌≡◌, map};
+ghost use Rattle.rules.specs.State.{other, any_held, any_stale};
 
+use crate::row::row_of;
 use keepers::search::BearsEntry;
 use rules::row::Row;
-
-// The row of an entry, a free one where there is none.
-pub fn row_of(rows: &[Row], entry: u16) -> Row
-    ensures { result ≡ slice_index_or rows.now entry free_row }
-{
-    rows.get(usize::from(entry)).copied().unwrap_or_default()
-}
 
 // Whether another seat than this one has a row locked.
 pub fn held(row: Row, seat: u16) -> bool

@@ -2,7 +2,7 @@
 use Rattle.std.proofs.Common.{◌≡◌, ℕ, zero, suc, ◌<◌, ◌≤◌, Bool, true, cond, ltb, ◌⊎◌, is_some, Some, None, Option, refl, ◌∙◌, arith}
 use Rattle.std.proofs.lemmas.Bool.{ltb-true}
 use Rattle.cards.specs.declared.card.Card.{Card}
-use Rattle.cards.specs.Versions.{Kept, with_card, without}
+use Rattle.cards.specs.Versions.{Kept, with_card}
 use Rattle.rules.specs.State.{sooner, after}
 use Rattle.cards.proofs.Somes.{some≢none}
 

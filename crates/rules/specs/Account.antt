@@ -18,6 +18,7 @@ pub data Desk : Type 0 where
   Drafting : ℕ → (ℕ → Option Card) → Desk
   Given : ℕ → Desk
 
+-- what is known of the stamped edits and of the seats
 pub record Account : Type 0 where
   -- the last time given
   pub last : ℕ

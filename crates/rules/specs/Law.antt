@@ -55,6 +55,7 @@ EditsThere (Given t) = ⊥
 abbrev pub Quiet : Account → Type 0
 Quiet a = ((k : ℕ) → Shut (a.desk k)) × ((t : ℕ) → 0 < t → t ≤ a.last → a.settled t ≡ true)
 
+-- a call is a collect
 abbrev pub IsCollect : Call → Type 0
 IsCollect (call.Proof k) = ⊥
 IsCollect (call.Edit k) = ⊥
@@ -99,6 +100,7 @@ pub data Form : Type 0 where
   card_form : Form
   done_form : Form
 
+-- the form that each call gives
 abbrev pub form_of : Call → Form
 form_of (call.Proof k) = number_form
 form_of (call.Edit k) = number_form
@@ -121,7 +123,8 @@ HasForm f (Err r) = Unit {0}
 
 -- ---- the law
 
--- Of the events h, which led to the state s. Cards are those after the stamped edits of the whole run.
+-- Of the events h, which led to the state s. Cards are those after the stamped edits of the whole run. The last three parts are of
+-- the state s; since every beginning of a run is a run, they hold all along.
 pub record Law (h : List Event) (s : State) : Type 0 where
   -- a granted edit answers the last time given, a granted stamp the next
   pub edit_answers_last_time : (later earlier : List Event) (k t : ℕ) → Happened h later (call.Edit k) (Ok (answer.Number t)) earlier → t ≡ (account earlier).last

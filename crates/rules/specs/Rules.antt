@@ -1,5 +1,5 @@
 -- One rule a call: from a state and the arguments to the next state and the answer; the refusals in the table's order, then the effect.
-use Rattle.std.specs.Prelude.{ℕ, ◌+◌, Bool, cond, ◌||◌, List, [], ◌∷◌, ◌++◌, map, length, drop, set, is_some, Some, None, Ok, Err, Option, Result, nat_le, nat_lt}
+use Rattle.std.specs.Prelude.{ℕ, ◌+◌, Bool, cond, ◌||◌, List, [], ◌∷◌, ◌++◌, map, length, drop, slice_set, is_some, Some, None, Ok, Err, Option, Result, nat_le, nat_lt}
 use Rattle.std.specs.Option.{unwrap_or}
 use Rattle.cards.specs.declared.card.Card.{Card}
 use Rattle.rules.specs.declared.stage.Stage.{Stage}
@@ -10,7 +10,7 @@ use Rattle.cards.specs.Versions.{with_card, without}
 use Rattle.cards.specs.Cards.{blank_card, map_of}
 use Rattle.cards.specs.Kinds.{letter_map, mark_map, pair_map, fits_in}
 use Rattle.cards.specs.declared.draft.Draft.{Draft}
-use Rattle.rules.specs.State.{Seat, idle, State, size, seat, row, look, written, has, other, any_held, any_stale, entry_of, taken, released, latest, after, ready, floor, unput_all, with_seat, with_rows, with_clock, with_kept}
+use Rattle.rules.specs.State.{Seat, idle, State, size, seat, row, look, written, has, may_read, may_draft, other, any_held, any_stale, entry_of, taken, released, latest, after, ready, floor, unput_all, with_seat, with_rows, with_clock, with_kept}
 
 -- A rule that names a seat goes by the seat's stage, in the definition that ends in _at.
 
@@ -70,13 +70,14 @@ newest s n = card_at s n (row s n).time
 abbrev pub noted : Seat → ℕ → Seat
 noted x n = record { stage = x.stage; reads = x.reads ++ n ∷ []; drafts = x.drafts }
 
+-- what an edit with the start t reads, by its draft there
 abbrev pub read_edit : State → ℕ → ℕ → ℕ → Option Card → State × Result Card Refusal
 read_edit s k n t (Some c) = (s, Ok c)
 read_edit s k n t None =
     cond (other (row s n).lock k) (s, Err why.Held)
     (cond (nat_lt t (row s n).time) (s, Err why.Stale)
     (cond (has (seat s k).reads n) (s, Ok (newest s n))
-    (cond (nat_lt (length (seat s k).reads) 32) (with_seat s k (noted (seat s k) n), Ok (newest s n))
+    (cond (may_read (seat s k)) (with_seat s k (noted (seat s k) n), Ok (newest s n))
     (s, Err why.List))))
 
 abbrev pub read_at : State → ℕ → ℕ → Stage → State × Result Card Refusal
@@ -109,7 +110,7 @@ write_at s k n c (stage.Proof t) = (s, Err why.Stage)
 write_at s k n c (stage.Edit t) =
     in_entry s n
     (cond (fits s n c)
-    (cond (is_some (look (seat s k).drafts n) || nat_lt (length (seat s k).drafts) 16)
+    (cond (is_some (look (seat s k).drafts n) || may_draft (seat s k))
     (with_seat s k (drafted (seat s k) n c), Ok tt)
     (s, Err why.List))
     (s, Err why.Misfit))
@@ -156,11 +157,12 @@ stamp s k = in_seat s k (stamp_at s k (seat s k).stage)
 abbrev pub put_draft : State → ℕ → ℕ → ℕ → Draft → Option Refusal → State × Result ℕ Refusal
 put_draft s k t p d (Some r) = (s, Err r)
 put_draft s k t p d None = (
-  with_kept (with_rows (with_seat s k (restaged (seat s k) (stage.Stamped t (p + 1)))) (set s.rows d.entry (record { time = t; lock = None })))
+  with_kept (with_rows (with_seat s k (restaged (seat s k) (stage.Stamped t (p + 1)))) (slice_set s.rows d.entry (record { time = t; lock = None })))
       (with_card s.kept d.entry t d.card),
   Ok (length (drop (p + 1) (seat s k).drafts)),
 )
 
+-- by the drafts that are left
 abbrev pub put_next : State → ℕ → ℕ → ℕ → List Draft → State × Result ℕ Refusal
 put_next s k t p [] = (s, Err why.Stage)
 put_next s k t p (d ∷ ds) = put_draft s k t p d (s.says s.kept d.entry t)
@@ -192,6 +194,7 @@ settle s k = in_seat s k (settle_at s k (seat s k).stage)
 
 -- ---- drop: edit or locked becomes idle, and its locks are released
 
+-- whichever of the two stages it was in
 abbrev pub dropped : State → ℕ → State × Result (Unit {0}) Refusal
 dropped s k = (with_rows (with_seat s k idle) (released s.rows k (seat s k).drafts), Ok tt)
 
@@ -219,10 +222,12 @@ ending s k = in_seat s k (end_at s k (seat s k).stage)
 
 -- ---- collect: the oldest version of the entry goes, if its follower's time is up to the floor
 
+-- by the follower, up to the floor, of the oldest version, whose time is t
 abbrev pub collect_next : State → ℕ → ℕ → Option ℕ → State × Result ℕ Refusal
 collect_next s n t None = (s, Err why.Needed)
 collect_next s n t (Some f) = (with_kept s (without s.kept n t), Ok t)
 
+-- by the time of the oldest version, up to the floor
 abbrev pub collect_oldest : State → ℕ → Option ℕ → State × Result ℕ Refusal
 collect_oldest s n None = (s, Err why.Needed)
 collect_oldest s n (Some t) = collect_next s n t (after (s.kept n) t (floor s))

@@ -36,6 +36,7 @@ pub record Event : Type 0 where
   pub call : Call
   pub answer : Result Answer Refusal
 
+-- the event of a call and its answer
 abbrev pub event : Call → Result Answer Refusal → Event
 event c a = record { call = c; answer = a }
 

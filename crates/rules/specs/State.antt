@@ -1,5 +1,5 @@
 -- What a store is, and the words that its rules use.
-use Rattle.std.specs.Prelude.{◌≡◌, ℕ, zero, suc, ◌+◌, ◌-◌, ◌<◌, ◌≤◌, min, Bool, true, false, cond, not, ◌||◌, List, [], ◌∷◌, length, get_or, drop, replicate, is_some, Some, None, Option, ◌==◌, nat_lt, slice_index_or, slice_set}
+use Rattle.std.specs.Prelude.{◌≡◌, ℕ, zero, suc, ◌+◌, ◌-◌, ◌<◌, ◌≤◌, min, Bool, true, false, cond, not, ◌||◌, List, [], ◌∷◌, length, drop, replicate, is_some, Some, None, Option, ◌==◌, nat_lt, slice_index_or, slice_set}
 use Rattle.cards.specs.Versions.{Kept, with_card, without}
 use Rattle.cards.specs.declared.card.Card.{Card}
 use Rattle.cards.specs.declared.draft.Draft.{Draft}
@@ -64,6 +64,13 @@ abbrev pub has : List ℕ → ℕ → Bool
 has [] n = false
 has (m ∷ ms) n = cond (n == m) true (has ms n)
 
+-- one more read, and one more draft, have a place
+abbrev pub may_read : Seat → Bool
+may_read x = nat_lt (length x.reads) 32
+
+abbrev pub may_draft : Seat → Bool
+may_draft x = nat_lt (length x.drafts) 16
+
 -- ---- rows and their locks
 
 -- another seat than k has it locked
@@ -74,12 +81,12 @@ other (Some j) k = not (j == k)
 -- another seat than k has one of these entries locked
 abbrev pub any_held : List Row → ℕ → List ℕ → Bool
 any_held rows k [] = false
-any_held rows k (n ∷ ns) = other (get_or rows n free_row).lock k || any_held rows k ns
+any_held rows k (n ∷ ns) = other (slice_index_or rows n free_row).lock k || any_held rows k ns
 
 -- one of these entries has a row time above the start
 abbrev pub any_stale : List Row → ℕ → List ℕ → Bool
 any_stale rows start [] = false
-any_stale rows start (n ∷ ns) = nat_lt start (get_or rows n free_row).time || any_stale rows start ns
+any_stale rows start (n ∷ ns) = nat_lt start (slice_index_or rows n free_row).time || any_stale rows start ns
 
 -- the entry of a draft
 abbrev pub entry_of : Draft → ℕ

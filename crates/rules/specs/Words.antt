@@ -14,6 +14,7 @@ pub record Told : Type 0 where
   pub values : List ℕ
   pub card : Option Card
 
+-- a number with what goes with it
 abbrev told_of : ℕ → List ℕ → Option Card → Told
 told_of n vs c = record { number = n; values = vs; card = c }
 

@@ -48,17 +48,20 @@ pub data Case : Type 0 where
   packs : Card → List ℕ → Case
   declined : List ℕ → ℕ → Case
 
+-- the answers, the bytes or the number are those that the definitions give
 abbrev pub Holds : Case → Type 0
 Holds (runs places cs as') = answers (small places) cs ≡ as'
 Holds (packs c bs) = packed c ≡ bs
 Holds (declined bs n) = option_map number_of (unpack_refusal bs) ≡ Some n
 
+-- each case of a list holds
 abbrev pub EachHolds : List Case → Type 0
 EachHolds [] = Unit {0}
 EachHolds (x ∷ xs) = Holds x × EachHolds xs
 
 -- ---- the words that the cases are written in
 
+-- a card with an advance alone
 abbrev pub wide : ℕ → Card
 wide x = record { advance = Some (pos x); left_bearing = None; anchor_across = None; anchor_up = None; mark_class = None; kern = None }
 
@@ -70,6 +73,7 @@ wide_and_low = record { advance = Some (pos 620); left_bearing = None; anchor_ac
 abbrev pub tight : Card
 tight = record { advance = None; left_bearing = None; anchor_across = None; anchor_up = None; mark_class = None; kern = Some (negsuc 39) }
 
+-- granted, with a number
 abbrev n# : ℕ → Result Answer Refusal
 n# t = Ok (answer.Number t)
 
@@ -135,7 +139,7 @@ last_seat = runs 8
     (call.Edit 16 ∷ call.Edit 15 ∷ call.Write 15 0 (wide 1) ∷ call.Lock 15 ∷ call.Drop 15 ∷ call.Edit 0 ∷ call.Write 0 0 (wide 2) ∷ call.Lock 0 ∷ [])
     (Err why.Seat ∷ n# 0 ∷ Ok answer.Done ∷ n# 1 ∷ Ok answer.Done ∷ n# 0 ∷ Ok answer.Done ∷ n# 1 ∷ [])
 
--- the bytes are 00; 05 02 6C FF F4; 20 FF D8; 40 and 01 02, which are declined
+-- all cases: the runs above; cards with their bytes, 00, 05 02 6C FF F4 and 20 FF D8; and the bytes 40 and 01 02, which are declined
 abbrev pub worked : List Case
 worked =
     misfit ∷ overtaken ∷ waiting ∷ one_place ∷ needed ∷ two_moments ∷ in_order ∷ half_put ∷ locks_stay ∷ last_seat
@@ -146,5 +150,6 @@ worked =
     ∷ declined (1 ∷ 2 ∷ []) 16
     ∷ []
 
+-- all of them hold
 abbrev pub WorkedCasesHold : Type 0
 WorkedCasesHold = EachHolds worked

@@ -1,3 +1,4 @@
-pub mod Singles
+pub mod ByNumber
 pub mod Shorts
+pub mod Singles
 pub mod Sums

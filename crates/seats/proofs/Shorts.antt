@@ -1,5 +1,5 @@
 -- Short lists: the front of an array.
-use Rattle.std.proofs.Common.{◌≡◌, ℕ, zero, suc, ◌+◌, ◌<◌, ◌≤◌, true, ltb, List, [], ◌∷◌, length, take, set, sym, refl, ap, ◌∙◌, arith}
+use Rattle.std.proofs.Common.{◌≡◌, ℕ, zero, suc, ◌+◌, ◌<◌, true, ltb, List, [], ◌∷◌, length, take, set, sym, refl, ap, ◌∙◌, arith}
 use Rattle.std.proofs.lemmas.List.{length-take-le, take_more_set}
 use Rattle.std.proofs.lemmas.Bool.{lt-ltb}
 use Rattle.seats.specs.View.{pushed}
@@ -16,8 +16,3 @@ module _ {X : Type 0} where
   set_front [] i (suc u) x = refl
   set_front (y ∷ xs) zero (suc u) x = refl
   set_front (y ∷ xs) (suc i) (suc u) x = ap (λ (l : List X). y ∷ l) (set_front xs i u x)
-
-  pub set_past : (xs : List X) (i : ℕ) (x : X) → length xs ≤ i → set xs i x ≡ xs
-  set_past [] i x l = refl
-  set_past (y ∷ xs) zero x l = absurd (omega arith)
-  set_past (y ∷ xs) (suc i) x l = ap (λ (r : List X). y ∷ r) (set_past xs i x (omega arith))

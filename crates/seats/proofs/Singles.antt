@@ -7,8 +7,12 @@ use Rattle.cards.specs.declared.draft.Draft.{Draft}
 use Rattle.keepers.specs.Lists.{Last}
 use Rattle.rules.proofs.Drafts.{look_written}
 use Rattle.rules.specs.State.{Seat as SeatOf, look, written, has}
+use Rattle.std.proofs.Math.Bool.{Bool-set}
+use mathlib.Core.HLevel.{is_prop→PathP}
 use Rattle.seats.specs.Once.{once}
-use Rattle.seats.specs.View.{pushed, may_draft, draft_seat}
+use Rattle.seats.specs.declared.drafts.Drafts.{Drafts as DraftsOf}
+use Rattle.seats.specs.declared.seat.Seat.{Seat as TheSeat}
+use Rattle.seats.specs.View.{listed, pushed, may_write, draft_seat}
 
 -- the search's property of an entry on a reading list, and of a draft
 abbrev pub Is : ℕ → ℕ → Type 0
@@ -84,7 +88,7 @@ draft_mapped xs ds n (Some i) e h o = draft_found xs ds n i no_draft e h o
 
 module _ (x : SeatOf) (n : ℕ) (c : Card) (xs : List Draft) (same : xs ≡ x.drafts) where
   -- in place of the one that was found
-  pub may_replace : (i : ℕ) → Last (Drafts n) xs (Some i) → once x.drafts ≡ true → true ≡ may_draft x n
+  pub may_replace : (i : ℕ) → Last (Drafts n) xs (Some i) → once x.drafts ≡ true → true ≡ may_write x n
   may_replace i h o = let f = draft_found xs x.drafts n i (record { entry = n; card = c }) same h o in grind arith
 
   pub replaced : (i : ℕ) → Last (Drafts n) xs (Some i) → once x.drafts ≡ true → set x.drafts i (record { entry = n; card = c }) ≡ (draft_seat x n c).drafts
@@ -95,7 +99,7 @@ module _ (x : SeatOf) (n : ℕ) (c : Card) (xs : List Draft) (same : xs ≡ x.dr
       grind arith
 
   -- or at the end, where there is none
-  pub may_push : Last (Drafts n) xs None → ltb (length x.drafts) 16 ≡ may_draft x n
+  pub may_push : Last (Drafts n) xs None → ltb (length x.drafts) 16 ≡ may_write x n
   may_push h = let f = draft_missed xs x.drafts n same h in grind arith
 
   pub pushed_is : Last (Drafts n) xs None → pushed 16 x.drafts (record { entry = n; card = c }) ≡ (draft_seat x n c).drafts
@@ -107,3 +111,11 @@ once_draft x n c ds e o = let r = once_written x.drafts n c o in ap once e ∙ g
 
 pub with_drafts : (x : SeatOf) (n : ℕ) (c : Card) (ds : List Draft) → ds ≡ (draft_seat x n c).drafts → ◌≡◌ {A = SeatOf} (record { stage = x.stage; reads = x.reads; drafts = ds }) (draft_seat x n c)
 with_drafts x n c ds e = (λ i. record { stage = x.stage; reads = x.reads; drafts = e i }) ∙ grind arith
+
+-- drafts with the same list are the same
+pub same_drafts : (x y : DraftsOf) → x.list ≡ y.list → x ≡ y
+same_drafts x y q = λ i. record { list = q i; single = is_prop→PathP (λ j. once (listed (q j)) ≡ true) (λ j. hlevel Bool-set) x.single y.single i }
+
+-- a seat of the program with other drafts
+abbrev pub seat_with : TheSeat → DraftsOf → TheSeat
+seat_with x d = record { stage = x.stage; reads = x.reads; drafts = d }

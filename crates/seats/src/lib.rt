@@ -1,9 +1,10 @@
 // The seats: what each holds, and the points that follow from all of them.
 #![tactic(auto)]
 
-pub mod drafts;
-pub mod lists;
+mod drafts;
+mod lists;
+pub mod numbered;
 pub mod points;
 pub mod seat;
-pub mod short;
-pub mod work;
+mod short;
+mod work;

@@ -1,5 +1,5 @@
 // What a short list does.
-ghost use Rattle.std.specs.Prelude.{◌≡◌, [], length, nat_lt, slice_set};
+ghost use Rattle.std.specs.Prelude.{◌≡◌, false, [], length, is_ok, nat_lt, slice_set};
 ghost use Rattle.seats.specs.View.{listed, pushed, if_placed};
 
 use crate::short::Short;
@@ -34,6 +34,7 @@ impl<T: Copy, const N: usize> Short<T, N> {
     pub(crate) fn push(&mut self, item: T) -> Result<(), Refusal>
         ensures list { listed self.new ≡ pushed N (listed self.old) item }
         ensures answer { result ≡ if_placed (nat_lt (length (listed self.old)) N) }
+        ensures same { is_ok result ≡ false → self.new ≡ self.old }
     {
         if self.used >= N {
             return Err(Refusal::List);

@@ -1,9 +1,9 @@
 // The ready point, the floor, and how many drafts are not yet put.
 ghost use Rattle.std.specs.Prelude.{◌≡◌, ◌≤◌, map, length};
-ghost use Rattle.rules.specs.State.{bound, ready_of, lower, floor_of, unput_of, unput_all};
+ghost use Rattle.rules.specs.State.{bound, ready_of, floor_of, unput_of, unput_all};
 ghost use Rattle.seats.specs.View.{view_seat};
 
-use crate::seat::Seat;
+use crate::seat::{SEATS, Seat};
 use rules::stage::Stage;
 
 impl Seat {
@@ -27,36 +27,36 @@ impl Seat {
             _ => clock,
         }
     }
-
-    // What is left of a floor: an open proof lowers it to its start.
-    fn lower(&self, floor: u32) -> u32
-        ensures { result ≡ lower self.now.stage floor }
-    {
-        match self.stage {
-            Stage::Proof { start } => start.min(floor),
-            _ => floor,
-        }
-    }
 }
 
-// The ready point.
+// The ready point: up to it everything that was stamped is put.
+#[tactic(auto, using(crate::proofs::Sums::ready_le))]
 pub fn ready(seats: &[Seat], clock: u32) -> u32
     ensures { result ≡ ready_of clock (map view_seat seats.now) }
 {
-    seats
-        .iter()
-        .fold(clock, |least, seat| least.min(seat.bound(clock)))
+    let mut least = clock;
+    for seat in seats {
+        least = least.min(seat.bound(clock));
+    }
+    least
 }
 
-// The least of the ready point and the starts of all open proofs.
+// The floor: the least of the ready point and the starts of all open proofs.
+#[tactic(auto, using(crate::proofs::Sums::floor_le))]
 pub fn floor(seats: &[Seat], ready: u32) -> u32
     ensures { result ≡ floor_of ready (map view_seat seats.now) }
 {
-    seats.iter().fold(ready, |least, seat| seat.lower(least))
+    let mut least = ready;
+    for seat in seats {
+        if let Stage::Proof { start } = seat.stage {
+            least = least.min(start);
+        }
+    }
+    least
 }
 
-// How many drafts all seats have not yet put.
-pub fn unput(seats: &[Seat; 16]) -> u32
+// How many drafts all seats have not yet put. It takes an array, so that the sum has a bound.
+pub fn unput(seats: &[Seat; SEATS]) -> u32
     ensures sum { result ≡ unput_all (map view_seat seats.now) }
     ensures few { result ≤ 256 }
 {

@@ -1,8 +1,8 @@
-// What a seat does.
-ghost use Rattle.std.specs.Prelude.{◌≡◌, length, drop};
+// What a seat does by itself; `numbered` says it of a seat by its number.
+ghost use Rattle.std.specs.Prelude.{◌≡◌, ◌≤◌, false, length, is_ok};
 ghost use Rattle.rules.specs.Rules.{staged, restaged};
 ghost use Rattle.rules.specs.State.{idle, look, has};
-ghost use Rattle.seats.specs.View.{view_seat, may_note, note_seat, may_draft, draft_seat, if_placed, first};
+ghost use Rattle.seats.specs.View.{view_seat, may_note, note_seat, may_write, draft_seat, if_placed};
 
 use crate::drafts::Drafts;
 use crate::seat::Seat;
@@ -32,7 +32,7 @@ impl Seat {
     }
 
     // Begins a stage with empty lists.
-    pub fn begin(&mut self, stage: Stage)
+    pub(crate) fn begin(&mut self, stage: Stage)
         ensures { view_seat self.new ≡ staged stage }
     {
         self.go_on(stage);
@@ -41,7 +41,7 @@ impl Seat {
     }
 
     // Goes on to a stage with the lists that it has.
-    pub fn go_on(&mut self, stage: Stage)
+    pub(crate) fn go_on(&mut self, stage: Stage)
         ensures { view_seat self.new ≡ restaged (view_seat self.old) stage }
     {
         self.stage = stage;
@@ -55,9 +55,10 @@ impl Seat {
     }
 
     // Notes, once, an entry that its edit reads; List where it would be the 33rd.
-    pub fn note(&mut self, entry: u16) -> Result<(), Refusal>
+    pub(crate) fn note(&mut self, entry: u16) -> Result<(), Refusal>
         ensures seat { view_seat self.new ≡ note_seat (view_seat self.old) entry }
         ensures answer { result ≡ if_placed (may_note (view_seat self.old) entry) }
+        ensures same { is_ok result ≡ false → self.new ≡ self.old }
     {
         if self.has_read(entry) {
             return Ok(());
@@ -66,7 +67,7 @@ impl Seat {
     }
 
     // Its draft of an entry.
-    pub fn draft_of(&self, entry: u16) -> Option<Card>
+    pub(crate) fn draft_of(&self, entry: u16) -> Option<Card>
         ensures { result ≡ look (view_seat self.now).drafts entry }
     {
         let drafts = self.drafts.list.as_slice();
@@ -74,9 +75,10 @@ impl Seat {
     }
 
     // Drafts a card for an entry, in place of an earlier draft or at the end; List where it would be the 17th.
-    pub fn draft(&mut self, entry: u16, card: Card) -> Result<(), Refusal>
+    pub(crate) fn draft(&mut self, entry: u16, card: Card) -> Result<(), Refusal>
         ensures seat { view_seat self.new ≡ draft_seat (view_seat self.old) entry card }
-        ensures answer { result ≡ if_placed (may_draft (view_seat self.old) entry) }
+        ensures answer { result ≡ if_placed (may_write (view_seat self.old) entry) }
+        ensures same { is_ok result ≡ false → self.new ≡ self.old }
     {
         let draft = Draft { entry, card };
         match last_match(self.drafts.list.as_slice(), entry, 0) {
@@ -88,29 +90,23 @@ impl Seat {
         }
     }
 
-    // Its draft in a place.
-    pub fn draft_at(&self, at: u32) -> Option<Draft>
-        ensures { result ≡ first (drop at (view_seat self.now).drafts) }
-    {
-        self.drafts().get(at as usize).copied()
-    }
-
     // How many drafts it has.
-    pub fn drafts_len(&self) -> u32
-        ensures { result ≡ length (view_seat self.now).drafts }
+    pub(crate) fn drafts_len(&self) -> u32
+        ensures count { result ≡ length (view_seat self.now).drafts }
+        ensures few { result ≤ 16 }
     {
         self.drafts.list.len() as u32
     }
 
     // The entries that its edit has read.
-    pub fn reads(&self) -> &[u16]
+    pub(crate) fn reads(&self) -> &[u16]
         ensures { result.now ≡ (view_seat self.now).reads }
     {
         self.reads.as_slice()
     }
 
     // Its drafts.
-    pub fn drafts(&self) -> &[Draft]
+    pub(crate) fn drafts(&self) -> &[Draft]
         ensures { result.now ≡ (view_seat self.now).drafts }
     {
         self.drafts.list.as_slice()

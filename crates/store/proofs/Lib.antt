@@ -1,7 +1,5 @@
 pub mod Applying
-pub mod Collecting
 pub mod Finding
+pub mod Following
 pub mod Founding
-pub mod Parts
-pub mod Putting
-pub mod Reading
+pub mod Fronts

@@ -1,5 +1,5 @@
 // Any one call, and any list of calls.
-ghost use Rattle.std.specs.Prelude.{◌≡◌, List, ◌∷◌, length};
+ghost use Rattle.std.specs.Prelude.{◌≡◌, false, List, ◌∷◌, is_ok, length};
 ghost use Rattle.rules.specs.Runs.{Event, event, events, Reached, step, play};
 ghost use Rattle.store.specs.Runs.{made, made_answer, answered_in, LawfulRun};
 ghost use Rattle.store.specs.View.{view};
@@ -15,6 +15,7 @@ impl<K: Keeper> Store<K> {
     fn make(&mut self, call: Call) -> Result<Answer, Refusal>
         ensures state { view K.kept K.places self.new ≡ (step (view K.kept K.places self.old) call).0 }
         ensures answer { result ≡ (step (view K.kept K.places self.old) call).1 }
+        ensures same { is_ok result ≡ false → self.new ≡ self.old }
     {
         match call {
             Call::Proof { seat } => self.proof(seat).map(Answer::Number),
@@ -37,6 +38,7 @@ impl<K: Keeper> Store<K> {
     pub fn apply(&mut self, call: Call) -> Result<Answer, Refusal>
         ensures state { view K.kept K.places self.new ≡ (step (view K.kept K.places self.old) call).0 }
         ensures answer { result ≡ (step (view K.kept K.places self.old) call).1 }
+        ensures same { is_ok result ≡ false → self.new ≡ self.old }
         ensures law { (h : List Event) → Reached h (view K.kept K.places self.old) → LawfulRun (event call result ∷ h) (view K.kept K.places self.new) }
     {
         self.make(call)
@@ -57,8 +59,8 @@ impl<K: Keeper> Store<K> {
         if answers.len() < calls.len() {
             return Err(Refusal::Short);
         }
-        for i in 0..calls.len() {
-            answers[i] = self.apply(calls[i]);
+        for (at, call) in calls.iter().enumerate() {
+            answers[at] = self.apply(*call);
         }
         Ok(())
     }

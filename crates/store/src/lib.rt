@@ -1,8 +1,12 @@
 // The store: eleven calls over any keeper, and the law of every run of them.
 #![tactic(auto)]
 
-pub mod apply;
-pub mod calls;
-pub mod making;
+mod apply;
+mod asking;
+mod calls;
+mod making;
 pub mod run;
-pub mod store;
+mod store;
+
+pub use crate::store::Store;
+pub use table::sizes::{Sizes, check};

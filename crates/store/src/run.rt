@@ -3,6 +3,7 @@ ghost use Rattle.std.specs.Prelude.{◌≡◌, [], length};
 ghost use Rattle.cards.specs.Versions.{Empty};
 ghost use Rattle.rules.specs.Law.{Law};
 ghost use Rattle.rules.specs.Runs.{events, play};
+ghost use Rattle.rules.specs.State.{size};
 ghost use Rattle.store.specs.Runs.{made, made_answer, answered_in};
 ghost use Rattle.store.specs.View.{view, new_store};
 
@@ -24,6 +25,7 @@ pub fn run<K: Keeper>(
     ensures state { view K.kept K.places result.0 ≡ play (new_store sizes (K.places keeper) (K.kept keeper)) (made calls.now (length answers.old)) }
     ensures answers { answers.new ≡ answered_in (new_store sizes (K.places keeper) (K.kept keeper)) calls.now answers.old }
     ensures result { result.1 ≡ made_answer calls.now (length answers.old) }
+    ensures entries { size (view K.kept K.places result.0) ≡ size (new_store sizes (K.places keeper) (K.kept keeper)) }
     ensures law { Empty (K.kept keeper) → Law (events [] (made calls.now (length answers.old)) answers.new) (view K.kept K.places result.0) }
 {
     let mut store = Store::new(keeper, sizes);

@@ -10,15 +10,29 @@ use keepers::version::Version;
 use linked::{Linked, Place};
 use roll::Roll;
 use std::io;
-use store::store::Store;
-use table::making::check;
-use table::sizes::Sizes;
-use teller::Teller;
+use store::{Sizes, Store, check};
+use teller::{LETTER, MARK, PAIR, Teller, name_of};
 
 // Room for the three first cards, the two new ones, and one more.
 const PLACES: usize = 6;
 
-// Plays the story on a new store over a keeper that is made for it, and says what the keeper holds in the end.
+// What a keeper holds of each entry: the time of its oldest version, and whether another follows.
+fn tell_held<K: Keeper>(rt: &HostRuntime, keeper: &K) -> io::Result<()> {
+    for entry in [LETTER, MARK, PAIR] {
+        let name = name_of(entry);
+        let oldest = keeper.after(entry, 0).unwrap_or(0);
+        match keeper.after(entry, oldest) {
+            Some(next) => println!(rt;
+                "the keeper holds {name} of time {oldest} and of time {next}"
+            ),
+            None => println!(rt; "the keeper holds {name} of time {oldest} and no other"),
+        }?;
+    }
+    let spare = keeper.spare();
+    println!(rt; "{spare} places to spare")
+}
+
+// Plays the story on a new store over a keeper that is made for it.
 fn play<K, M>(rt: &HostRuntime, name: &str, sizes: Sizes, make: M) -> io::Result<()>
 where
     K: Keeper + Drop,
@@ -31,10 +45,7 @@ where
         store: Store::new(make()?, sizes),
     };
     teller.tell()?;
-    let keeper = teller.store.into_keeper();
-    let held = keeper.held();
-    let spare = keeper.spare();
-    println!(rt; "the keeper holds {held} versions and has {spare} places to spare")
+    tell_held(rt, &teller.store.into_keeper())
 }
 
 fn main(rt: HostRuntime) -> io::Result<()> {

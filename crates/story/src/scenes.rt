@@ -66,8 +66,8 @@ impl<K: Keeper> Teller<'_, K> {
         self.act_all(title, &calls)
     }
 
-    // Seat 2 moves the anchor and the kern in one edit, step by step. Seat 3 steps in between: it reads the mark and drafts the
-    // letter. Proofs are opened on seats 4 and 5 while the edit is half put.
+    // Seat 2 begins to move the anchor and the kern in one edit, step by step. Seat 3 steps in between: it reads the mark and
+    // drafts the letter.
     fn move_both(&mut self) -> io::Result<()> {
         let title = "the anchor and the kern are moved";
         let seat = 2;
@@ -97,7 +97,24 @@ impl<K: Keeper> Teller<'_, K> {
             },
             Call::Stamp { seat },
             Call::Proof { seat: 4 },
+        ];
+        self.act_all(title, &calls)
+    }
+
+    // The edit is put draft by draft. While it is half put the old proof reads on, and another proof is opened.
+    fn put_both(&mut self) -> io::Result<()> {
+        let title = "half put";
+        let seat = 2;
+        let calls = [
             Call::Put { seat },
+            Call::Read {
+                seat: 1,
+                entry: MARK,
+            },
+            Call::Read {
+                seat: 1,
+                entry: PAIR,
+            },
             Call::Read {
                 seat: 3,
                 entry: PAIR,
@@ -160,7 +177,7 @@ impl<K: Keeper> Teller<'_, K> {
 
     // Seat 3 read the old mark, so its edit is overtaken: it gets no time, and is dropped.
     fn overtake(&mut self) -> io::Result<()> {
-        let title = "the overtaken edit";
+        let title = "the overtaken edit, which read the mark before it was moved";
         let seat = 3;
         let calls = [
             Call::Lock { seat },
@@ -205,6 +222,7 @@ impl<K: Keeper> Teller<'_, K> {
     pub fn tell(&mut self) -> io::Result<()> {
         self.begin()?;
         self.move_both()?;
+        self.put_both()?;
         self.compare()?;
         self.overtake()?;
         self.collect()

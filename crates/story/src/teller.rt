@@ -4,7 +4,7 @@ use keepers::keeper::Keeper;
 use rules::answer::Answer;
 use rules::call::Call;
 use std::io;
-use store::store::Store;
+use store::Store;
 
 // The entries of the story.
 pub const LETTER: u16 = 0;
@@ -20,7 +20,7 @@ pub struct Teller<'a, K: Keeper> {
     pub store: Store<K>,
 }
 
-fn name_of(entry: u16) -> &'static str {
+pub fn name_of(entry: u16) -> &'static str {
     match entry {
         LETTER => "the letter",
         MARK => "the mark",
@@ -67,17 +67,16 @@ fn reply(rt: &HostRuntime, answer: Result<Answer, Refusal>) -> io::Result<()> {
 }
 
 impl<K: Keeper> Teller<'_, K> {
-    // Makes one call, and prints it with its answer.
-    fn act(&mut self, call: Call) -> io::Result<()> {
-        say(self.rt, call)?;
-        reply(self.rt, self.store.apply(call))
-    }
-
-    // Makes calls in order, under a title.
+    // Makes calls in order, under a title, and prints each with its answer.
     pub fn act_all(&mut self, title: &str, calls: &[Call]) -> io::Result<()> {
         println!(self.rt; "-- {title}")?;
-        for call in calls {
-            self.act(*call)?;
+        let mut answers = vec![in self.rt.alloc(); Ok(Answer::Done); calls.len()]?;
+        if let Err(why) = self.store.apply_all(calls, &mut answers) {
+            return println!(self.rt; "no call is made, {why}");
+        }
+        for (call, answer) in calls.iter().zip(answers.iter()) {
+            say(self.rt, *call)?;
+            reply(self.rt, *answer)?;
         }
         Ok(())
     }

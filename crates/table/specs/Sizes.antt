@@ -1,5 +1,5 @@
 -- The sizes of a store, and its seats' places.
-use Rattle.std.specs.Prelude.{ℕ, ◌+◌, Bool, cond, ◌&&◌, Ok, Err, Result, nat_le, nat_lt}
+use Rattle.std.specs.Prelude.{ℕ, ◌+◌, Bool, cond, ◌&&◌, Err, Result, nat_le, nat_lt}
 use Rattle.cards.specs.Versions.{Kept}
 use Rattle.cards.specs.declared.refusal.Refusal.{Refusal}
 use Rattle.cards.specs.declared.refusal.Refusal.TheVariants as why
@@ -23,7 +23,3 @@ sizes_answer z places = cond (suits z) (memory_answer places) (Err why.Sizes)
 -- a new store with these sizes; with sizes that no store may have, it has no entries
 abbrev pub begun : Sizes → ℕ → Kept → State
 begun z places held = cond (suits z) (opened z.letters z.marks z.pairs places held) (opened 0 0 0 places held)
-
--- the place of a seat in the table; Seat for a seat above 15
-abbrev pub seat_place : ℕ → Result ℕ Refusal
-seat_place k = cond (nat_lt k 16) (Ok k) (Err why.Seat)

@@ -1,9 +1,8 @@
-// The table: what a store has beside its keeper, and the calls that need no keeper.
+// The table: what a store has beside its keeper, and its sizes.
 #![tactic(auto)]
 
-pub mod calls;
 pub mod counts;
-pub mod making;
-pub mod parts;
+mod making;
+mod parts;
 pub mod sizes;
 pub mod table;

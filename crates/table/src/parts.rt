@@ -1,65 +1,72 @@
 // What the calls ask of a table.
-ghost use Rattle.std.specs.Prelude.{◌≡◌, ℕ, ◌<◌, cond, Ok, Err};
-ghost use Rattle.cards.specs.Versions.{Kept};
-ghost use Rattle.cards.specs.declared.refusal.Refusal.TheVariants as why;
+ghost use Rattle.std.specs.Prelude.{◌≡◌};
 ghost use Rattle.rules.specs.Rules.{fits as fits-at};
 ghost use Rattle.rules.specs.State.{size, ready as ready-point, floor as floor-point};
-ghost use Rattle.table.specs.Sizes.{seat_place};
-ghost use Rattle.table.specs.View.{view_table};
+ghost use Rattle.table.specs.View.{alone, stage_in, entry_in};
 
 use crate::table::Table;
 use cards::card::Card;
 use cards::kind::{Letter, Mark, Pair, fits};
 use cards::refusal::Refusal;
 use rules::row::Row;
+use rules::stage::Stage;
+use seats::numbered::stage_of;
 use seats::points::{floor, ready};
-
-// How many seats there are.
-const SEATS: u16 = 16;
-
-// The place of a seat in the table.
-pub fn seat_place(seat: u16) -> Result<usize, Refusal>
-    ensures { result ≡ seat_place seat }
-{
-    if seat >= SEATS {
-        return Err(Refusal::Seat);
-    }
-    Ok(usize::from(seat))
-}
+use seats::seat::SEATS;
 
 impl Table {
+    // What a seat is doing; Seat for a seat above 15.
+    pub fn stage(&self, seat: u16) -> Result<Stage, Refusal>
+        ensures { result ≡ stage_in (alone self.now) seat }
+    {
+        if usize::from(seat) >= SEATS {
+            return Err(Refusal::Seat);
+        }
+        Ok(stage_of(&self.seats, seat))
+    }
+
     // The number of entries.
-    pub fn size(&self) -> u16
-        ensures { (m : Kept) (places : ℕ) → result ≡ size (view_table self.now m places) }
+    fn size(&self) -> u16
+        ensures { result ≡ size (alone self.now) }
     {
         self.counts.letters + self.counts.marks + self.counts.pairs
     }
 
+    // Entry for an entry that the table does not have.
+    pub fn entry(&self, entry: u16) -> Result<(), Refusal>
+        ensures { result ≡ entry_in (alone self.now) entry }
+    {
+        if entry >= self.size() {
+            return Err(Refusal::Entry);
+        }
+        Ok(())
+    }
+
     // The rows, one for each entry.
     pub fn rows(&self) -> &[Row]
-        ensures { (m : Kept) (places : ℕ) → result.now ≡ (view_table self.now m places).rows }
+        ensures { result.now ≡ (alone self.now).rows }
     {
         let rows: &[Row] = &self.rows;
         &rows[..usize::from(self.size())]
     }
 
     // The ready point.
-    pub(crate) fn ready(&self) -> u32
-        ensures { (m : Kept) (places : ℕ) → result ≡ ready-point (view_table self.now m places) }
+    pub fn ready(&self) -> u32
+        ensures { result ≡ ready-point (alone self.now) }
     {
         ready(&self.seats, self.clock)
     }
 
     // The floor.
     pub fn floor(&self) -> u32
-        ensures { (m : Kept) (places : ℕ) → result ≡ floor-point (view_table self.now m places) }
+        ensures { result ≡ floor-point (alone self.now) }
     {
-        floor(&self.seats, ready(&self.seats, self.clock))
+        floor(&self.seats, self.ready())
     }
 
     // Whether a card has no bit that an entry's kind may not bear.
-    pub(crate) fn fits(&self, entry: u16, card: Card) -> bool
-        ensures { (m : Kept) (places : ℕ) → result ≡ fits-at (view_table self.now m places) entry card }
+    pub fn fits(&self, entry: u16, card: Card) -> bool
+        ensures { result ≡ fits-at (alone self.now) entry card }
     {
         if entry < self.counts.letters {
             return fits::<Letter>(card);

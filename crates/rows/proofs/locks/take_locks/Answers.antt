@@ -9,7 +9,7 @@ use Rattle.rows.proofs.locks.take_locks.Goals as goal
 pub loop-draft-preserved : goal.loop-draft-preserved
 loop-draft-preserved c =
     let k = c.args.seat in
-    turned (λ (rs : List Row) (ds : List Draft). taken rs k ds) (locked k) (λ rs d ds. refl) c.loop-draft.rows _ c.args.drafts.now c.loop-draft.draft-index _ _ c.loop-draft-test.true c.set_row.ensures (ap (locked k) c.row_of-time.ensures)
+    turned (λ (rs : List Row) (ds : List Draft). taken rs k ds) (locked k) (λ rs d ds. refl) c.loop-draft.rows _ c.args.drafts.now c.loop-draft.draft-index _ _ c.loop-draft-test.true c.set_row.ensures (ap (locked k) c.row_of-row.ensures)
     ∙ c.loop-draft.invariant
 
 pub returns : goal.returns

@@ -1,6 +1,6 @@
 use Rattle.std.proofs.Common.{sym, arith}
-use Rattle.std.proofs.lemmas.List.{length-take-le}
-use Rattle.seats.proofs.Shorts.{set_front, set_past}
+use Rattle.std.proofs.lemmas.List.{length-take-le, set_past}
+use Rattle.seats.proofs.Shorts.{set_front}
 use Rattle.seats.proofs.short.Short.replace.Goals as goal
 
 pub returns-then-at-self : goal.returns-then-at-self

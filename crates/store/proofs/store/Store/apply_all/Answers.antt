@@ -8,18 +8,18 @@ returns-then-answers-calls g c =
     let e = ended_none _ c.args.calls.now c.args.answers.now c.if-answers-calls.true in
     record { state = e.0; answers = e.1; result = e.2; law = e.3 }
 
-pub loop-i-init : goal.loop-i-init
-loop-i-init g c = played_none _ _ _
+pub loop-at-init : goal.loop-at-init
+loop-at-init g c = played_none _ _ _
 
-pub loop-i-preserved : goal.loop-i-preserved
-loop-i-preserved g c =
-    let k = c.loop-i.auto.answers in
+pub loop-at-preserved : goal.loop-at-preserved
+loop-at-preserved g c =
+    let k = c.loop-at.auto.answers in
     let l = c.if-answers-calls.false in
-    let t = c.loop-i-test.true in
-    played_more _ _ _ c.loop-i.i _ _ c.loop-i.answers (call.Proof 0) c.apply.result t (omega arith) c.apply.ensures.state c.apply.ensures.answer c.loop-i.invariant
+    let t = c.loop-at-test.true in
+    played_more _ _ _ c.loop-at.at _ _ c.loop-at.answers (call.Proof 0) c.apply.result t (omega arith) c.apply.ensures.state c.apply.ensures.answer c.loop-at.invariant
 
 pub returns : goal.returns
 returns g c =
-    let i = c.loop-i.auto.i-end in
-    let e = ended_all _ c.args.calls.now c.args.answers.now c.loop-i.i _ c.loop-i.answers c.if-answers-calls.false (omega arith) c.loop-i.invariant in
+    let i = c.loop-at.auto.at-end in
+    let e = ended_all _ c.args.calls.now c.args.answers.now c.loop-at.at _ c.loop-at.answers c.if-answers-calls.false (omega arith) c.loop-at.invariant in
     record { state = e.0; answers = e.1; result = e.2; law = e.3 }
