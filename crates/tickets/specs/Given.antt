@@ -1,5 +1,6 @@
 -- What a call through a ticket gives, by the answer of the numbered call on its seat.
-use Rattle.std.specs.Prelude.{ℕ, Bool, true, false, cond, not, ◌&&◌, Ok, Err, Result, ◌==◌}
+use Rattle.std.specs.Prelude.{ℕ, Bool, true, false, cond, not, ◌&&◌, Some, Ok, Err, Result, ◌==◌}
+use Rattle.std.specs.Option.{unwrap_or}
 use Rattle.cards.specs.Refusals.{number_of}
 use Rattle.cards.specs.declared.refusal.Refusal.{Refusal}
 use Rattle.rules.specs.declared.stage.Stage.{Stage}
@@ -23,7 +24,11 @@ abbrev pub locked_ticket : ℕ → LockedTicket
 locked_ticket k = record { seat = k }
 
 abbrev pub stamped_ticket : ℕ → StampedTicket
-stamped_ticket k = record { seat = k }
+stamped_ticket k = record { seat = Some k }
+
+-- the seat that a stamped ticket names; a spent one would name a seat that no store has
+abbrev pub named : StampedTicket → ℕ
+named t = unwrap_or t.seat 65535
 
 -- ---- granted and declined
 
@@ -45,10 +50,10 @@ abbrev pub passed : {T U : Type 0} → T → U → Result ℕ Refusal → Result
 passed t u (Ok n) = Ok (n, u)
 passed t u (Err r) = Err (declined (is_stage r) t r)
 
--- a call that takes the ticket in
-abbrev pub spent : {T X : Type 0} → T → Result X Refusal → Result X (Declined T)
-spent t (Ok x) = Ok x
-spent t (Err r) = Err (declined (is_stage r) t r)
+-- a call that takes the ticket in, and gives none
+abbrev pub closed : {T X : Type 0} → T → Result X Refusal → Result X (Declined T)
+closed t (Ok x) = Ok x
+closed t (Err r) = Err (declined (is_stage r) t r)
 
 -- a stamped edit
 abbrev pub is_stamped : Stage → Bool

@@ -1,0 +1,107 @@
+// The scenes: an edit that is overtaken begins again and is saved, and a proof reads what it wrote.
+ghost use Rattle.std.specs.Prelude.{◌<◌, IfErr};
+ghost use Rattle.booking.specs.Left.{Seated};
+
+use crate::clerk::Clerk;
+use crate::entries::{LETTER, MARK, PAIR, letter_card, mark_card, pair_card};
+use cards::refusal::Refusal;
+use keepers::keeper::Keeper;
+use tickets::edit::EditTicket;
+use tickets::stamped::StampedTicket;
+
+// Who sits where.
+const DESIGNER: u16 = 2;
+
+const OTHER: u16 = 3;
+
+const READER: u16 = 4;
+
+// How often the letter's edit is begun.
+const ROUNDS: u32 = 3;
+
+impl<K: Keeper> Clerk<'_, K> {
+    // Saves an edit, and says whether it is saved; if not, it is given up.
+    fn finish(&mut self, ticket: EditTicket) -> Result<bool, StampedTicket>
+        requires { ticket.seat < 16 }
+        ensures { IfErr result Seated }
+    {
+        match self.save(ticket) {
+            Ok(time) => {
+                self.note(println!(self.rt; "  settles, time: {time}"));
+                Ok(true)
+            }
+            Err(unsaved) => {
+                self.give_up(unsaved)?;
+                Ok(false)
+            }
+        }
+    }
+
+    // Another edit, which writes the mark.
+    fn overtake(&mut self) -> Result<bool, StampedTicket>
+        ensures { IfErr result Seated }
+    {
+        let Some(ticket) = self.open(OTHER) else {
+            return Ok(false);
+        };
+        if let Err(why) = self.write(&ticket, MARK, mark_card()) {
+            self.drop_open("write", why, ticket);
+            return Ok(false);
+        }
+        self.finish(ticket)
+    }
+
+    // Reads the mark, and drafts the letter and the pair.
+    fn draft(&mut self, ticket: &EditTicket) -> Result<(), Refusal> {
+        let mark = self.read(ticket, MARK)?;
+        self.write(ticket, LETTER, letter_card(mark))?;
+        self.write(ticket, PAIR, pair_card())
+    }
+
+    // The letter's edit, from its opening; says whether it is saved. The first one is overtaken.
+    fn attempt(&mut self, first: bool) -> Result<bool, StampedTicket>
+        ensures { IfErr result Seated }
+    {
+        let Some(ticket) = self.open(DESIGNER) else {
+            return Ok(false);
+        };
+        if let Err(why) = self.draft(&ticket) {
+            self.drop_open("read or write", why, ticket);
+            return Ok(false);
+        }
+        if first {
+            self.say("-- meanwhile, the mark's edit");
+            self.overtake()?;
+            self.say("-- the letter's edit goes on");
+        }
+        self.finish(ticket)
+    }
+
+    // A proof reads the letter.
+    fn read_back(&mut self) {
+        let Some(ticket) = self.prove(READER) else {
+            return;
+        };
+        self.look(&ticket, LETTER);
+        let outcome = ticket.end(&mut self.store);
+        self.closed("end", outcome);
+    }
+
+    // The whole. A stamped ticket that could not be settled is handed on.
+    pub fn tell(&mut self) -> Result<(), StampedTicket>
+        ensures { IfErr result Seated }
+    {
+        self.say("-- the letter's edit");
+        for round in 0..ROUNDS {
+            if round > 0 {
+                self.say("-- the letter's edit begins again");
+            }
+            if self.attempt(round == 0)? {
+                break;
+            }
+        }
+        self.say("-- a proof");
+        self.read_back();
+        Ok(())
+    }
+}

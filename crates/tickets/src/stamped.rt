@@ -1,0 +1,93 @@
+// The ticket of a stamped edit. It may not be let go before it is spent: while its edit is not settled, the ready point may stand
+// still for everyone.
+ghost use Rattle.std.specs.Prelude.{◌≡◌, false, is_ok, None};
+ghost use Rattle.rules.specs.Rules.{put, settle};
+ghost use Rattle.rules.specs.State.{seat as seat-of};
+ghost use Rattle.store.specs.View.{view};
+ghost use Rattle.tickets.specs.Given.{named, is_stamped, declined, put_passed, closed};
+
+use crate::declined::{Declined, is_stage};
+use cards::refusal::Refusal;
+use keepers::keeper::Keeper;
+use rules::stage::Stage;
+use store::Store;
+
+// Its seat is there until it is spent.
+pub struct StampedTicket {
+    pub(crate) seat: Option<u16>,
+}
+
+impl Drop for StampedTicket {
+    fn drop(self)
+        requires { self.seat ≡ None }
+    {
+        let StampedTicket { seat: _ } = self;
+    }
+}
+
+// A seat that no store has.
+const NO_SEAT: u16 = u16::MAX;
+
+// Whether a seat is stamped.
+fn is_stamped(stage: Stage) -> bool
+    ensures { result ≡ is_stamped stage }
+{
+    matches!(stage, Stage::Stamped { time: _, put: _ })
+}
+
+impl StampedTicket {
+    // The seat that it names. Nobody holds a spent one; it would name a seat that no store has.
+    fn named(&self) -> u16
+        ensures { result ≡ named self.now }
+    {
+        self.seat.unwrap_or(NO_SEAT)
+    }
+
+    // Spends it, and only so it may be let go.
+    fn spend(mut self) {
+        self.seat = None;
+    }
+
+    // What becomes of it where its call is declined: it is taken in, or given back.
+    fn declined(self, gone: bool, why: Refusal) -> Declined<StampedTicket>
+        ensures { result ≡ declined gone self why }
+    {
+        if gone {
+            self.spend();
+            return Declined::TakenIn;
+        }
+        Declined::Back { why, ticket: self }
+    }
+
+    // Hands the next draft to the keeper, and answers how many are left, with the same ticket.
+    pub fn put<K: Keeper>(
+        self,
+        store: &mut Store<K>,
+    ) -> Result<(u32, StampedTicket), Declined<StampedTicket>>
+        ensures state { view K.kept K.places store.new ≡ (put (view K.kept K.places store.old) (named self)).0 }
+        ensures answer { result ≡ put_passed self (is_stamped (seat-of (view K.kept K.places store.old) (named self)).stage) (put (view K.kept K.places store.old) (named self)).1 }
+        ensures same { is_ok result ≡ false → store.new ≡ store.old }
+    {
+        let seat = self.named();
+        let stage = store.stage(seat);
+        match store.put(seat) {
+            Ok(left) => Ok((left, self)),
+            Err(why) => Err(self.declined(is_stage(why) && !is_stamped(stage), why)),
+        }
+    }
+
+    // Closes the edit, and answers its time.
+    pub fn settle<K: Keeper>(self, store: &mut Store<K>) -> Result<u32, Declined<StampedTicket>>
+        ensures state { view K.kept K.places store.new ≡ (settle (view K.kept K.places store.old) (named self)).0 }
+        ensures answer { result ≡ closed self (settle (view K.kept K.places store.old) (named self)).1 }
+        ensures same { is_ok result ≡ false → store.new ≡ store.old }
+    {
+        match store.settle(self.named()) {
+            Ok(time) => {
+                self.spend();
+                Ok(time)
+            }
+            Err(why) => Err(self.declined(is_stage(why), why)),
+        }
+    }
+}
