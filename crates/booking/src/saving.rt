@@ -13,13 +13,12 @@ impl<K: Keeper> Clerk<'_, K> {
     // Puts so many drafts.
     fn put_all(
         &mut self,
-        ticket: StampedTicket,
+        mut ticket: StampedTicket,
         count: u32,
     ) -> Result<StampedTicket, Declined<StampedTicket>>
         requires { Seated ticket }
         ensures { MatchResult result Seated SeatedBack }
     {
-        let mut ticket = ticket;
         for _ in 0..count {
             let (left, same) = ticket.put(&mut self.store)?;
             ticket = same;

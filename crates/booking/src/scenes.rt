@@ -1,5 +1,5 @@
 // The scenes: an edit that is overtaken begins again and is saved, and a proof reads what it wrote.
-ghost use Rattle.std.specs.Prelude.{◌<◌, IfErr};
+ghost use Rattle.std.specs.Prelude.{◌≡◌, ◌<◌, IfErr, IfSome};
 ghost use Rattle.booking.specs.Left.{Seated};
 
 use crate::clerk::Clerk;
@@ -15,9 +15,6 @@ const DESIGNER: u16 = 2;
 const OTHER: u16 = 3;
 
 const READER: u16 = 4;
-
-// How often the letter's edit is begun.
-const ROUNDS: u32 = 3;
 
 impl<K: Keeper> Clerk<'_, K> {
     // Saves an edit, and says whether it is saved; if not, it is given up.
@@ -58,23 +55,39 @@ impl<K: Keeper> Clerk<'_, K> {
         self.write(ticket, PAIR, pair_card())
     }
 
-    // The letter's edit, from its opening; says whether it is saved. The first one is overtaken.
-    fn attempt(&mut self, first: bool) -> Result<bool, StampedTicket>
-        ensures { IfErr result Seated }
+    // The letter's edit up to its drafts, where it comes so far.
+    fn drafted(&mut self) -> Option<EditTicket>
+        ensures { IfSome result (λ ticket. ticket.seat ≡ 2) }
     {
-        let Some(ticket) = self.open(DESIGNER) else {
-            return Ok(false);
-        };
+        let ticket = self.open(DESIGNER)?;
         if let Err(why) = self.draft(&ticket) {
             self.drop_open("read or write", why, ticket);
+            return None;
+        }
+        Some(ticket)
+    }
+
+    // The letter's edit is overtaken by the mark's; says whether it is saved all the same.
+    fn overtaken(&mut self) -> Result<bool, StampedTicket>
+        ensures { IfErr result Seated }
+    {
+        let Some(ticket) = self.drafted() else {
             return Ok(false);
-        }
-        if first {
-            self.say("-- meanwhile, the mark's edit");
-            self.overtake()?;
-            self.say("-- the letter's edit goes on");
-        }
+        };
+        self.say("-- meanwhile, the mark's edit");
+        self.overtake()?;
+        self.say("-- the letter's edit goes on");
         self.finish(ticket)
+    }
+
+    // The letter's edit, with none beside it.
+    fn again(&mut self) -> Result<bool, StampedTicket>
+        ensures { IfErr result Seated }
+    {
+        match self.drafted() {
+            Some(ticket) => self.finish(ticket),
+            None => Ok(false),
+        }
     }
 
     // A proof reads the letter.
@@ -87,18 +100,15 @@ impl<K: Keeper> Clerk<'_, K> {
         self.closed("end", outcome);
     }
 
-    // The whole. A stamped ticket that could not be settled is handed on.
+    // An edit that is overtaken begins again, and a proof reads what it wrote. A stamped ticket that could not be settled is
+    // handed on.
     pub fn tell(&mut self) -> Result<(), StampedTicket>
         ensures { IfErr result Seated }
     {
         self.say("-- the letter's edit");
-        for round in 0..ROUNDS {
-            if round > 0 {
-                self.say("-- the letter's edit begins again");
-            }
-            if self.attempt(round == 0)? {
-                break;
-            }
+        if !self.overtaken()? {
+            self.say("-- the letter's edit begins again");
+            self.again()?;
         }
         self.say("-- a proof");
         self.read_back();

@@ -20,6 +20,7 @@ pub struct EditTicket {
 pub fn edit<K: Keeper>(store: &mut Store<K>, seat: u16) -> Result<(u32, EditTicket), Refusal>
     ensures state { view K.kept K.places store.new ≡ (edit (view K.kept K.places store.old) seat).0 }
     ensures answer { result ≡ with_ticket (edit_ticket seat) (edit (view K.kept K.places store.old) seat).1 }
+    ensures keeper { store.new.keeper ≡ store.old.keeper }
     ensures same { is_ok result ≡ false → store.new ≡ store.old }
 {
     store.edit(seat).map(|start| (start, EditTicket { seat }))
@@ -30,6 +31,7 @@ impl EditTicket {
     pub fn read<K: Keeper>(&self, store: &mut Store<K>, entry: u16) -> Result<Card, Refusal>
         ensures state { view K.kept K.places store.new ≡ (read (view K.kept K.places store.old) self.now.seat entry).0 }
         ensures answer { result ≡ (read (view K.kept K.places store.old) self.now.seat entry).1 }
+        ensures keeper { store.new.keeper ≡ store.old.keeper }
         ensures same { is_ok result ≡ false → store.new ≡ store.old }
     {
         store.read(self.seat, entry)
@@ -44,6 +46,7 @@ impl EditTicket {
     ) -> Result<(), Refusal>
         ensures state { view K.kept K.places store.new ≡ (write (view K.kept K.places store.old) self.now.seat entry card).0 }
         ensures answer { result ≡ (write (view K.kept K.places store.old) self.now.seat entry card).1 }
+        ensures keeper { store.new.keeper ≡ store.old.keeper }
         ensures same { is_ok result ≡ false → store.new ≡ store.old }
     {
         store.write(self.seat, entry, card)
@@ -56,6 +59,7 @@ impl EditTicket {
     ) -> Result<(u32, LockedTicket), Declined<EditTicket>>
         ensures state { view K.kept K.places store.new ≡ (lock (view K.kept K.places store.old) self.seat).0 }
         ensures answer { result ≡ passed self (locked_ticket self.seat) (lock (view K.kept K.places store.old) self.seat).1 }
+        ensures keeper { store.new.keeper ≡ store.old.keeper }
         ensures same { is_ok result ≡ false → store.new ≡ store.old }
     {
         let seat = self.seat;
@@ -69,6 +73,7 @@ impl EditTicket {
     pub fn drop_edit<K: Keeper>(self, store: &mut Store<K>) -> Result<(), Declined<EditTicket>>
         ensures state { view K.kept K.places store.new ≡ (dropping (view K.kept K.places store.old) self.seat).0 }
         ensures answer { result ≡ closed self (dropping (view K.kept K.places store.old) self.seat).1 }
+        ensures keeper { store.new.keeper ≡ store.old.keeper }
         ensures same { is_ok result ≡ false → store.new ≡ store.old }
     {
         store

@@ -23,6 +23,7 @@ impl LockedTicket {
     ) -> Result<(u32, StampedTicket), Declined<LockedTicket>>
         ensures state { view K.kept K.places store.new ≡ (stamp (view K.kept K.places store.old) self.seat).0 }
         ensures answer { result ≡ passed self (stamped_ticket self.seat) (stamp (view K.kept K.places store.old) self.seat).1 }
+        ensures keeper { store.new.keeper ≡ store.old.keeper }
         ensures same { is_ok result ≡ false → store.new ≡ store.old }
     {
         let seat = self.seat;
@@ -36,6 +37,7 @@ impl LockedTicket {
     pub fn drop_edit<K: Keeper>(self, store: &mut Store<K>) -> Result<(), Declined<LockedTicket>>
         ensures state { view K.kept K.places store.new ≡ (dropping (view K.kept K.places store.old) self.seat).0 }
         ensures answer { result ≡ closed self (dropping (view K.kept K.places store.old) self.seat).1 }
+        ensures keeper { store.new.keeper ≡ store.old.keeper }
         ensures same { is_ok result ≡ false → store.new ≡ store.old }
     {
         store

@@ -32,7 +32,7 @@ const NO_SEAT: u16 = u16::MAX;
 fn is_stamped(stage: Stage) -> bool
     ensures { result ≡ is_stamped stage }
 {
-    matches!(stage, Stage::Stamped { time: _, put: _ })
+    matches!(stage, Stage::Stamped { .. })
 }
 
 impl StampedTicket {
@@ -69,10 +69,13 @@ impl StampedTicket {
         ensures same { is_ok result ≡ false → store.new ≡ store.old }
     {
         let seat = self.named();
-        let stage = store.stage(seat);
         match store.put(seat) {
             Ok(left) => Ok((left, self)),
-            Err(why) => Err(self.declined(is_stage(why) && !is_stamped(stage), why)),
+            Err(why) => {
+                // The store is as it was, so its stage tells why.
+                let gone = is_stage(why) && !is_stamped(store.stage(seat));
+                Err(self.declined(gone, why))
+            }
         }
     }
 
@@ -80,6 +83,7 @@ impl StampedTicket {
     pub fn settle<K: Keeper>(self, store: &mut Store<K>) -> Result<u32, Declined<StampedTicket>>
         ensures state { view K.kept K.places store.new ≡ (settle (view K.kept K.places store.old) (named self)).0 }
         ensures answer { result ≡ closed self (settle (view K.kept K.places store.old) (named self)).1 }
+        ensures keeper { store.new.keeper ≡ store.old.keeper }
         ensures same { is_ok result ≡ false → store.new ≡ store.old }
     {
         match store.settle(self.named()) {
