@@ -5,6 +5,7 @@ run:
 	cd crates/story && rt run
 	test "$$(crates/story/out/story)" = "$$(cat crates/story/stdout)"
 
-# The whole gate.
+# The whole gate, and the misuses that the compiler has to refuse.
 test:
 	bash .ci/run
+	sh crates/booking/misuses/try.sh
