@@ -1,0 +1,7 @@
+// The lines of a script, read to calls.
+#![tactic(auto)]
+
+pub mod cursor;
+pub mod numbers;
+pub mod taking;
+pub mod words;
