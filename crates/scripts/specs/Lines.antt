@@ -34,7 +34,7 @@ abbrev pub next : Left → Left
 next l = next_of l.words l.place
 
 -- no word is left; else the place of the first that is
-abbrev end_of : List (List ℕ) → ℕ → Result (Unit {0}) ℕ
+abbrev pub end_of : List (List ℕ) → ℕ → Result (Unit {0}) ℕ
 end_of [] place = Ok tt
 end_of (word ∷ more) place = Err place
 

@@ -3,5 +3,6 @@
 
 pub mod cursor;
 pub mod numbers;
+pub mod reading;
 pub mod taking;
 pub mod words;

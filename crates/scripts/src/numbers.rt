@@ -64,7 +64,7 @@ fn signed(bytes: &[u8]) -> Option<i16>
 // The letter of a word.
 pub fn letter(word: Word<'_>) -> Option<char>
     requires { IsSorted word }
-    ensures { result ≡ letter (bytes_of word) }
+    ensures { result ≡ letter (bytes_of word.entry) }
 {
     match word {
         Word::Letter(bytes) => Some(char::from(bytes[0])),
@@ -75,7 +75,7 @@ pub fn letter(word: Word<'_>) -> Option<char>
 // The number of a word without a sign.
 pub fn number(word: Word<'_>, most: u16) -> Option<u16>
     requires { IsSorted word }
-    ensures { result ≡ number most (bytes_of word) }
+    ensures { result ≡ number most (bytes_of word.entry) }
 {
     match word {
         Word::Number(bytes) => unsigned(bytes, most),
@@ -86,7 +86,7 @@ pub fn number(word: Word<'_>, most: u16) -> Option<u16>
 // The number of a word that may have a minus.
 pub fn field(word: Word<'_>) -> Option<i16>
     requires { IsSorted word }
-    ensures { result ≡ field (bytes_of word) }
+    ensures { result ≡ field (bytes_of word.entry) }
 {
     match word {
         Word::Number(bytes) => signed(bytes),

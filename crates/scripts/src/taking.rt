@@ -64,6 +64,7 @@ impl<'a> Cursor<'a> {
     }
 
     // Nothing is left.
+    #[tactic(auto, using(crate::proofs::Parts::has_word))]
     pub(crate) fn end(&self) -> Result<(), u32>
         ensures { result ≡ end (left_of self.now) }
     {
