@@ -1,7 +1,6 @@
 -- What a cursor and a word stand for.
-use Rattle.std.specs.Prelude.{◌≡◌, ℕ, ◌+◌, Bool, true, false, List, [], length, Some, None, Option}
+use Rattle.std.specs.Prelude.{◌≡◌, ℕ, true, false, List, Some, None, Option}
 use Rattle.scripts.specs.Words.{words_in, is_letter, is_number}
-
 use Rattle.scripts.specs.declared.cursor.Cursor.{Cursor}
 use Rattle.scripts.specs.Lines.{Left}
 use Rattle.scripts.specs.declared.words.Word.{Word}

@@ -1,5 +1,5 @@
 -- The words of a line, and of which kind each is.
-use Rattle.std.specs.Prelude.{◌+◌, ℕ, Bool, true, false, cond, ◌&&◌, not, List, [], ◌∷◌, drop, Some, None, Option, ◌==◌, nat_le, nat_lt, length, slice_index}
+use Rattle.std.specs.Prelude.{◌+◌, ℕ, Bool, false, cond, ◌&&◌, List, [], ◌∷◌, drop, Some, None, Option, ◌==◌, nat_le, nat_lt, length, slice_index}
 use Rattle.std.specs.Borrow.{Bor}
 use Rattle.std.specs.List.{slice_split, list_all}
 use Rattle.std.specs.Char.{is_ascii_digit}

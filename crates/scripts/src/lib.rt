@@ -1,8 +1,8 @@
 // The lines of a script, read to calls.
 #![tactic(auto)]
 
-pub mod cursor;
-pub mod numbers;
+mod cursor;
+mod numbers;
 pub mod reading;
-pub mod taking;
+mod taking;
 pub mod words;

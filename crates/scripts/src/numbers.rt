@@ -6,7 +6,7 @@ ghost use Rattle.scripts.specs.View.{bytes_of, IsSorted};
 
 use crate::words::Word;
 
-// The value of digits, unless it is above the most that may stand there.
+// The value of digits, unless it is above the most that may stand there. It is asked of digits alone; `saturating_sub` spares a `requires`.
 fn value(digits: &[u8], most: u16) -> Option<u16>
     ensures { result ≡ up_to most (value 0 digits.now) }
 {
@@ -62,7 +62,7 @@ fn signed(bytes: &[u8]) -> Option<i16>
 }
 
 // The letter of a word.
-pub fn letter(word: Word<'_>) -> Option<char>
+pub(crate) fn letter(word: Word<'_>) -> Option<char>
     requires { IsSorted word }
     ensures { result ≡ letter (bytes_of word.entry) }
 {
@@ -73,7 +73,7 @@ pub fn letter(word: Word<'_>) -> Option<char>
 }
 
 // The number of a word without a sign.
-pub fn number(word: Word<'_>, most: u16) -> Option<u16>
+pub(crate) fn number(word: Word<'_>, most: u16) -> Option<u16>
     requires { IsSorted word }
     ensures { result ≡ number most (bytes_of word.entry) }
 {
@@ -84,7 +84,7 @@ pub fn number(word: Word<'_>, most: u16) -> Option<u16>
 }
 
 // The number of a word that may have a minus.
-pub fn field(word: Word<'_>) -> Option<i16>
+pub(crate) fn field(word: Word<'_>) -> Option<i16>
     requires { IsSorted word }
     ensures { result ≡ field (bytes_of word.entry) }
 {

@@ -77,17 +77,35 @@ fn call_behind(letter: char, words: &mut Cursor<'_>) -> Result<Call, u32>
     ensures { result ≡ call_of letter (left_of words.old) }
 {
     match letter {
-        'p' => Ok(Call::Proof { seat: alone(words)? }),
-        'e' => Ok(Call::Edit { seat: alone(words)? }),
+        'p' => Ok(Call::Proof {
+            seat: alone(words)?,
+        }),
+        'e' => Ok(Call::Edit {
+            seat: alone(words)?,
+        }),
         'r' => read_call(words),
         'w' => write_call(words),
-        'l' => Ok(Call::Lock { seat: alone(words)? }),
-        's' => Ok(Call::Stamp { seat: alone(words)? }),
-        'u' => Ok(Call::Put { seat: alone(words)? }),
-        't' => Ok(Call::Settle { seat: alone(words)? }),
-        'd' => Ok(Call::Drop { seat: alone(words)? }),
-        'q' => Ok(Call::End { seat: alone(words)? }),
-        'c' => Ok(Call::Collect { entry: alone(words)? }),
+        'l' => Ok(Call::Lock {
+            seat: alone(words)?,
+        }),
+        's' => Ok(Call::Stamp {
+            seat: alone(words)?,
+        }),
+        'u' => Ok(Call::Put {
+            seat: alone(words)?,
+        }),
+        't' => Ok(Call::Settle {
+            seat: alone(words)?,
+        }),
+        'd' => Ok(Call::Drop {
+            seat: alone(words)?,
+        }),
+        'q' => Ok(Call::End {
+            seat: alone(words)?,
+        }),
+        'c' => Ok(Call::Collect {
+            entry: alone(words)?,
+        }),
         _ => Err(1),
     }
 }

@@ -43,7 +43,7 @@ fn first_space(line: &[u8]) -> Option<usize>
     line.iter().position(|byte| *byte == b' ')
 }
 
-// The first word, and what stands behind its space, if there is one.
+// The first word of some, and what stands behind its space, if there is one.
 #[tactic(auto, using(crate::proofs::Parts::cut_at, crate::proofs::Parts::uncut))]
 pub fn cut(line: &[u8]) -> (&[u8], Option<&[u8]>)
     ensures parts { words line.now ≡ result.0.now ∷ words_in result.1 }

@@ -1,4 +1,4 @@
-use Rattle.std.proofs.Common.{◌≡◌, ℕ, ◌≤◌, drop}
+use Rattle.std.proofs.Common.{◌≡◌, ◌≤◌, drop}
 use Rattle.scripts.specs.Numbers.{value}
 use Rattle.scripts.proofs.numbers.value.Given as goal
 
