@@ -77,35 +77,17 @@ fn call_behind(letter: char, words: &mut Cursor<'_>) -> Result<Call, u32>
     ensures { result ≡ call_of letter (left_of words.old) }
 {
     match letter {
-        'p' => Ok(Call::Proof {
-            seat: alone(words)?,
-        }),
-        'e' => Ok(Call::Edit {
-            seat: alone(words)?,
-        }),
+        'p' => alone(words).map(|seat| Call::Proof { seat }),
+        'e' => alone(words).map(|seat| Call::Edit { seat }),
         'r' => read_call(words),
         'w' => write_call(words),
-        'l' => Ok(Call::Lock {
-            seat: alone(words)?,
-        }),
-        's' => Ok(Call::Stamp {
-            seat: alone(words)?,
-        }),
-        'u' => Ok(Call::Put {
-            seat: alone(words)?,
-        }),
-        't' => Ok(Call::Settle {
-            seat: alone(words)?,
-        }),
-        'd' => Ok(Call::Drop {
-            seat: alone(words)?,
-        }),
-        'q' => Ok(Call::End {
-            seat: alone(words)?,
-        }),
-        'c' => Ok(Call::Collect {
-            entry: alone(words)?,
-        }),
+        'l' => alone(words).map(|seat| Call::Lock { seat }),
+        's' => alone(words).map(|seat| Call::Stamp { seat }),
+        'u' => alone(words).map(|seat| Call::Put { seat }),
+        't' => alone(words).map(|seat| Call::Settle { seat }),
+        'd' => alone(words).map(|seat| Call::Drop { seat }),
+        'q' => alone(words).map(|seat| Call::End { seat }),
+        'c' => alone(words).map(|entry| Call::Collect { entry }),
         _ => Err(1),
     }
 }
