@@ -117,7 +117,7 @@ one make l = do
   n ← alone l
   Ok (make n)
 
--- the call that a letter names: p e r w l s u t d q c
+-- the call that a letter names: p e r w l s u t d q c; another letter does not fit, and has place 1
 unfoldable pub call_of : ℕ → Left → Result Call ℕ
 call_of letter l =
     cond (letter == 112) (one call.Proof l)

@@ -7,6 +7,7 @@ ghost use Rattle.scripts.specs.View.{bytes_of, IsSorted};
 use crate::words::Word;
 
 // The value of digits, unless it is above the most that may stand there. It is asked of digits alone; `saturating_sub` spares a `requires`.
+#[tactic(auto, using(crate::proofs::Digits::too_great))]
 fn value(digits: &[u8], most: u16) -> Option<u16>
     ensures { result ≡ up_to most (value 0 digits.now) }
 {
