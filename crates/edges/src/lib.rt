@@ -1,10 +1,12 @@
-// Tests at the edges: of cards and their forms, of both keepers, and of a store over each; what needs a keeper is written once,
-// over any.
+// Tests at the edges: of cards and their forms, of both keepers, of a store over each, and of the lines of a script; what needs a keeper
+// is written once, over any.
 #![tactic(auto)]
 
 #[cfg(test)]
 mod forms;
 #[cfg(test)]
 mod keeping;
+#[cfg(test)]
+mod lines;
 #[cfg(test)]
 mod serving;

@@ -1,0 +1,148 @@
+-- What a line of a script says: a call, or the place of the first word that does not fit.
+use Rattle.std.specs.Prelude.{ℕ, ◌+◌, ◌/◌, ◌%◌, Bool, cond, List, [], ◌∷◌, length, ℤ, Some, None, Ok, Err, Option, Result, option_and_then, ◌==◌, nat_lt}
+use Rattle.cards.specs.declared.card.Card.{Card}
+use Rattle.rules.specs.declared.call.Call.{Call}
+use Rattle.rules.specs.declared.call.Call.TheVariants as call
+use Rattle.scripts.specs.Words.{words, letter}
+use Rattle.scripts.specs.Numbers.{number, field}
+
+-- the words of a line that are still to be read, and the place of the first of them, from 1
+pub record Left : Type 0 where
+  pub words : List (List ℕ)
+  pub place : ℕ
+
+-- the first of some words
+abbrev pub first : List (List ℕ) → Option (List ℕ)
+first [] = None
+first (word ∷ more) = Some word
+
+-- a value that is there, else the place
+abbrev pub or_place : {A : Type 0} → Option A → ℕ → Result A ℕ
+or_place (Some x) place = Ok x
+or_place None place = Err place
+
+-- what the next word stands for, or its place if it is missing or does not fit
+abbrev pub fit : {A : Type 0} → (List ℕ → Option A) → Left → Result A ℕ
+fit f l = or_place (option_and_then f (first l.words)) l.place
+
+-- the words behind the next one
+abbrev next_of : List (List ℕ) → ℕ → Left
+next_of [] place = record { words = []; place = place }
+next_of (word ∷ more) place = record { words = more; place = place + 1 }
+
+abbrev pub next : Left → Left
+next l = next_of l.words l.place
+
+-- no word is left; else the place of the first that is
+abbrev pub end_of : List (List ℕ) → ℕ → Result (Unit {0}) ℕ
+end_of [] place = Ok tt
+end_of (word ∷ more) place = Err place
+
+abbrev pub end : Left → Result (Unit {0}) ℕ
+end l = end_of l.words l.place
+
+-- the first place that does not fit is the answer
+infixl 10 ◌>>=◌
+abbrev pub ◌>>=◌ : {A B : Type 0} → Result A ℕ → (A → Result B ℕ) → Result B ℕ
+(Ok x) >>= f = f x
+(Err place) >>= f = Err place
+
+-- a seat or an entry
+abbrev pub plain : List ℕ → Option ℕ
+plain word = number 65535 word
+
+-- a bit map
+abbrev pub bit_map : List ℕ → Option ℕ
+bit_map word = number 63 word
+
+-- one number and nothing behind it
+unfoldable pub alone : Left → Result ℕ ℕ
+alone l = do
+  n ← fit plain l
+  none ← end (next l)
+  Ok n
+
+-- a read: seat and entry
+unfoldable pub read_of : Left → Result Call ℕ
+read_of l = do
+  seat ← fit plain l
+  entry ← alone (next l)
+  Ok (call.Read seat entry)
+
+-- a field whose bit stands is the next word; one whose bit does not is absent, and takes none
+abbrev there : Left → Result (Option ℤ) ℕ
+there l = do
+  z ← fit field l
+  Ok (Some z)
+
+abbrev pub fit_if : Bool → Left → Result (Option ℤ) ℕ
+fit_if present l = cond present (there l) (Ok None)
+
+abbrev pub next_if : Bool → Left → Left
+next_if present l = cond present (next l) l
+
+-- a bit of a map, by what it is worth
+abbrev pub bit_of : ℕ → ℕ → Bool
+bit_of map worth = map / worth % 2 == 1
+
+-- the fields whose bits stand in a map, the lowest bit first, and nothing behind them
+unfoldable pub card_of : ℕ → Left → Result Card ℕ
+card_of map l = do
+  advance ← fit_if (bit_of map 1) l
+  let l₁ = next_if (bit_of map 1) l
+  left_bearing ← fit_if (bit_of map 2) l₁
+  let l₂ = next_if (bit_of map 2) l₁
+  anchor_across ← fit_if (bit_of map 4) l₂
+  let l₃ = next_if (bit_of map 4) l₂
+  anchor_up ← fit_if (bit_of map 8) l₃
+  let l₄ = next_if (bit_of map 8) l₃
+  mark_class ← fit_if (bit_of map 16) l₄
+  let l₅ = next_if (bit_of map 16) l₄
+  kern ← fit_if (bit_of map 32) l₅
+  none ← end (next_if (bit_of map 32) l₅)
+  Ok (record { advance = advance; left_bearing = left_bearing; anchor_across = anchor_across; anchor_up = anchor_up; mark_class = mark_class; kern = kern })
+
+-- a write: seat, entry, bit map and the map's fields
+unfoldable pub write_of : Left → Result Call ℕ
+write_of l = do
+  seat ← fit plain l
+  entry ← fit plain (next l)
+  map ← fit bit_map (next (next l))
+  card ← card_of map (next (next (next l)))
+  Ok (call.Write seat entry card)
+
+-- a call that has one number
+abbrev one : (ℕ → Call) → Left → Result Call ℕ
+one make l = do
+  n ← alone l
+  Ok (make n)
+
+-- the call that a letter names: p e r w l s u t d q c; another letter does not fit, and has place 1
+unfoldable pub call_of : ℕ → Left → Result Call ℕ
+call_of letter l =
+    cond (letter == 112) (one call.Proof l)
+    (cond (letter == 101) (one call.Edit l)
+    (cond (letter == 114) (read_of l)
+    (cond (letter == 119) (write_of l)
+    (cond (letter == 108) (one call.Lock l)
+    (cond (letter == 115) (one call.Stamp l)
+    (cond (letter == 117) (one call.Put l)
+    (cond (letter == 116) (one call.Settle l)
+    (cond (letter == 100) (one call.Drop l)
+    (cond (letter == 113) (one call.End l)
+    (cond (letter == 99) (one call.Collect l)
+    (Err 1)))))))))))
+
+-- the words of a line before any is read
+abbrev pub all_of : List ℕ → Left
+all_of line = record { words = words line; place = 1 }
+
+-- the call of the words
+unfoldable pub read_words : Left → Result Call ℕ
+read_words l = do
+  first ← fit letter l
+  call_of first (next l)
+
+-- the call of a line, or the place of the first word that does not fit; 0 for a line of more than 80 bytes
+abbrev pub read : List ℕ → Result Call ℕ
+read line = cond (nat_lt 80 (length line)) (Err 0) (read_words (all_of line))
