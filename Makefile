@@ -8,4 +8,4 @@ run:
 # The whole gate, and the misuses that the compiler has to refuse.
 test:
 	bash .ci/run
-	sh crates/booking/misuses/try.sh
+	sh tools/misuses.sh

@@ -1,0 +1,33 @@
+-- Why a call through a ticket is declined is why the call by its number is.
+use Rattle.std.proofs.Common.{◌≡◌, ℕ, Bool, true, false, Ok, Err, Result, arith}
+use Rattle.cards.specs.declared.refusal.Refusal.{Refusal}
+use Rattle.tickets.specs.Given.{is_stage, declined, passed, put_passed, closed}
+use Rattle.tickets.specs.declared.declined.Declined.{Declined}
+use Rattle.saving.specs.Saved.{why_declined}
+
+pub why_back : {T : Type 0} (t : T) (r : Refusal) → why_declined (declined (is_stage r) t r) ≡ r
+why_back t r = grind arith
+
+pub why_passed : {T U : Type 0} (t : T) (u : U) (o : Result ℕ Refusal) (d : Declined T) → Err d ≡ passed t u o → o ≡ Err (why_declined d)
+why_passed t u (Ok n) d e = grind arith
+why_passed t u (Err r) d e = let w = why_back t r in grind arith
+
+pub why_put : {T : Type 0} (t : T) (b : Bool) (o : Result ℕ Refusal) (d : Declined T) → Err d ≡ put_passed t b o → o ≡ Err (why_declined d)
+why_put t true (Ok n) d e = grind arith
+why_put t false (Ok n) d e = grind arith
+why_put t true (Err r) d e = grind arith
+why_put t false (Err r) d e = let w = why_back t r in grind arith
+
+pub why_closed : {T X : Type 0} (t : T) (o : Result X Refusal) (d : Declined T) → Err d ≡ closed t o → o ≡ Err (why_declined d)
+why_closed t (Ok x) d e = grind arith
+why_closed t (Err r) d e = let w = why_back t r in grind arith
+
+pub ok_passed : {T U : Type 0} (t : T) (u v : U) (o : Result ℕ Refusal) (n : ℕ) → Ok (n, v) ≡ passed t u o → (o ≡ Ok n) × (v ≡ u)
+ok_passed t u v (Ok m) n e = (grind arith, grind arith)
+ok_passed t u v (Err r) n e = (grind arith, grind arith)
+
+pub ok_put : {T : Type 0} (t v : T) (b : Bool) (o : Result ℕ Refusal) (n : ℕ) → Ok (n, v) ≡ put_passed t b o → (o ≡ Ok n) × (v ≡ t)
+ok_put t v b (Ok m) n e = (grind arith, grind arith)
+ok_put t v b (Err r) n e = (grind arith, grind arith)
+
+pub ruleset whys = (why_passed, why_put, why_closed, ok_passed, ok_put)
