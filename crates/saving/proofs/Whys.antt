@@ -22,12 +22,4 @@ pub why_closed : {T X : Type 0} (t : T) (o : Result X Refusal) (d : Declined T) 
 why_closed t (Ok x) d e = grind arith
 why_closed t (Err r) d e = let w = why_back t r in grind arith
 
-pub ok_passed : {T U : Type 0} (t : T) (u v : U) (o : Result ℕ Refusal) (n : ℕ) → Ok (n, v) ≡ passed t u o → (o ≡ Ok n) × (v ≡ u)
-ok_passed t u v (Ok m) n e = (grind arith, grind arith)
-ok_passed t u v (Err r) n e = (grind arith, grind arith)
-
-pub ok_put : {T : Type 0} (t v : T) (b : Bool) (o : Result ℕ Refusal) (n : ℕ) → Ok (n, v) ≡ put_passed t b o → (o ≡ Ok n) × (v ≡ t)
-ok_put t v b (Ok m) n e = (grind arith, grind arith)
-ok_put t v b (Err r) n e = (grind arith, grind arith)
-
-pub ruleset whys = (why_passed, why_put, why_closed, ok_passed, ok_put)
+pub ruleset whys = (why_passed, why_put, why_closed)
