@@ -54,6 +54,7 @@ impl<K: Keeper> Store<K> {
         ensures state { view K.kept K.places self.new ≡ play (view K.kept K.places self.old) (made calls.now (length answers.old)) }
         ensures answers { answers.new ≡ answered_in (view K.kept K.places self.old) calls.now answers.old }
         ensures result { result ≡ made_answer calls.now (length answers.old) }
+        ensures same { is_ok result ≡ false → self.new ≡ self.old }
         ensures law { (h : List Event) → Reached h (view K.kept K.places self.old) → LawfulRun (events h (made calls.now (length answers.old)) answers.new) (view K.kept K.places self.new) }
     {
         if answers.len() < calls.len() {

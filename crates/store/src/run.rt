@@ -1,5 +1,5 @@
 // A whole run: a new store, and calls made on it in order.
-ghost use Rattle.std.specs.Prelude.{◌≡◌, [], length};
+ghost use Rattle.std.specs.Prelude.{◌≡◌, false, [], is_ok, length};
 ghost use Rattle.cards.specs.Versions.{Empty};
 ghost use Rattle.rules.specs.Law.{Law};
 ghost use Rattle.rules.specs.Runs.{events, play};
@@ -25,6 +25,7 @@ pub fn run<K: Keeper>(
     ensures state { view K.kept K.places result.0 ≡ play (new_store sizes (K.places keeper) (K.kept keeper)) (made calls.now (length answers.old)) }
     ensures answers { answers.new ≡ answered_in (new_store sizes (K.places keeper) (K.kept keeper)) calls.now answers.old }
     ensures result { result.1 ≡ made_answer calls.now (length answers.old) }
+    ensures keeper { is_ok result.1 ≡ false → result.0.keeper ≡ keeper }
     ensures entries { size (view K.kept K.places result.0) ≡ size (new_store sizes (K.places keeper) (K.kept keeper)) }
     ensures law { Empty (K.kept keeper) → Law (events [] (made calls.now (length answers.old)) answers.new) (view K.kept K.places result.0) }
 {

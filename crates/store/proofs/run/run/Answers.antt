@@ -14,6 +14,7 @@ returns g c =
       state = subst (λ (s : State). view g.K.Keeper.kept g.K.Keeper.places c.apply_all-result.new.self ≡ play s (made c.args.calls.now (length c.args.answers.now))) n.state e.state;
       answers = subst (λ (s : State). c.apply_all-result.new.answers ≡ answered_in s c.args.calls.now c.args.answers.now) n.state e.answers;
       result = e.result;
+      keeper = λ none. ap (λ s. s.keeper) (e.same none) ∙ n.keeper;
       entries = ap size e.state ∙ size_play (made c.args.calls.now (length c.args.answers.now)) _ ∙ ap size n.state;
       law = λ none. (e.law _ (n.history none)).1;
     }
