@@ -1,8 +1,10 @@
-// The lines of a script, read to calls.
+// The lines of a script, read to calls, and the lines that answer them.
 #![tactic(auto)]
 
 mod cursor;
 mod numbers;
 pub mod reading;
 mod taking;
+mod text;
 pub mod words;
+pub mod writing;

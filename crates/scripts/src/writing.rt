@@ -1,0 +1,120 @@
+// Writing a call as a line, and the line that answers one.
+ghost use Rattle.std.specs.Prelude.{◌≡◌, ◌+◌, ◌<◌, ◌≤◌, ◌++◌, length};
+ghost use Rattle.scripts.specs.Texts.{letter_of, numbers_of, call_text, outcome_text, given_text, answer_text, unread_text};
+ghost use Rattle.scripts.specs.Scripts.{most_bytes};
+
+use crate::text::{byte, card_text, spaced};
+pub use crate::text::{Line, MOST_BYTES};
+use cards::refusal::Refusal;
+use rules::answer::Answer;
+use rules::call::Call;
+
+// The letter that names a call.
+fn letter_of(call: Call) -> char
+    ensures value { result ≡ letter_of call }
+    ensures ascii { letter_of call < 128 }
+{
+    match call {
+        Call::Proof { .. } => 'p',
+        Call::Edit { .. } => 'e',
+        Call::Read { .. } => 'r',
+        Call::Write { .. } => 'w',
+        Call::Lock { .. } => 'l',
+        Call::Stamp { .. } => 's',
+        Call::Put { .. } => 'u',
+        Call::Settle { .. } => 't',
+        Call::Drop { .. } => 'd',
+        Call::End { .. } => 'q',
+        Call::Collect { .. } => 'c',
+    }
+}
+
+// The numbers of a call.
+fn numbers(line: &mut Line, call: Call)
+    requires { length line.old.bytes + 58 ≤ most_bytes }
+    ensures { line.new.bytes ≡ line.old.bytes ++ numbers_of call }
+{
+    match call {
+        Call::Read { seat, entry } => {
+            spaced(line, seat);
+            spaced(line, entry);
+        }
+        Call::Write { seat, entry, card } => {
+            spaced(line, seat);
+            spaced(line, entry);
+            card_text(line, card);
+        }
+        Call::Collect { entry } => spaced(line, entry),
+        Call::Proof { seat }
+        | Call::Edit { seat }
+        | Call::Lock { seat }
+        | Call::Stamp { seat }
+        | Call::Put { seat }
+        | Call::Settle { seat }
+        | Call::Drop { seat }
+        | Call::End { seat } => spaced(line, seat),
+    }
+}
+
+// The line of a call, without its end.
+pub fn call_line(call: Call) -> Line
+    ensures text { result.bytes ≡ call_text call }
+{
+    let mut line = Line::new();
+    byte(&mut line, letter_of(call));
+    numbers(&mut line, call);
+    line
+}
+
+// What a granted call gives.
+fn given(line: &mut Line, answer: Answer)
+    requires { length line.old.bytes + 46 ≤ most_bytes }
+    ensures text { line.new.bytes ≡ line.old.bytes ++ given_text answer }
+    ensures len { length line.new.bytes ≤ length line.old.bytes + 46 }
+{
+    match answer {
+        Answer::Number(number) => spaced(line, number),
+        Answer::Card(card) => card_text(line, card),
+        Answer::Done => {}
+    }
+}
+
+// 0 and what a granted call gives, or the number of the refusal.
+fn outcome(line: &mut Line, answer: Result<Answer, Refusal>)
+    requires { length line.old.bytes + 50 ≤ most_bytes }
+    ensures text { line.new.bytes ≡ line.old.bytes ++ outcome_text answer }
+    ensures len { length line.new.bytes ≤ length line.old.bytes + 50 }
+{
+    match answer {
+        Ok(answer) => {
+            spaced(line, 0u8);
+            given(line, answer);
+        }
+        Err(why) => spaced(line, why.number()),
+    }
+}
+
+// The line that answers a call, with its end.
+pub fn answer_line(call: Call, answer: Result<Answer, Refusal>) -> Line
+    ensures text { result.bytes ≡ answer_text call answer }
+    ensures short { length (answer_text call answer) ≤ most_bytes }
+{
+    let mut line = Line::new();
+    byte(&mut line, letter_of(call));
+    outcome(&mut line, answer);
+    byte(&mut line, '\n');
+    line
+}
+
+// The line that answers a line that cannot be read, with its end.
+pub fn unread_line(place: u32) -> Line
+    ensures text { result.bytes ≡ unread_text place }
+    ensures short { length (unread_text place) ≤ most_bytes }
+{
+    let mut line = Line::new();
+    byte(&mut line, '?');
+    spaced(&mut line, Refusal::Line.number());
+    spaced(&mut line, place);
+    byte(&mut line, '\n');
+    line
+}
