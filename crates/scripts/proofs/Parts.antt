@@ -10,11 +10,11 @@ use Rattle.scripts.specs.Words.{is_space, words}
 use Rattle.scripts.specs.Lines.{end_of}
 
 -- the place of the first space, where there is one
-found : (at n : ℕ) (t : Bool) → cond t (Some n) None ≡ Some at → (t ≡ true) × (n ≡ at)
+pub found : (at n : ℕ) (t : Bool) → cond t (Some n) None ≡ Some at → (t ≡ true) × (n ≡ at)
 found at n true e = (refl, cc)
 found at n false e = cc
 
-missed : (n : ℕ) (t : Bool) → cond t (Some n) None ≡ None → t ≡ false
+pub missed : (n : ℕ) (t : Bool) → cond t (Some n) None ≡ None → t ≡ false
 missed n true e = cc
 missed n false e = refl
 

@@ -1,23 +1,23 @@
 -- A whole script: its lines, the calls that they say, and all that is written for them.
 use Rattle.std.specs.Prelude.{ℕ, ◌*◌, Bool, cond, List, [], ◌∷◌, ◌++◌, length, map, drop, Ok, Err, Result, ◌==◌, nat_le}
+use Rattle.std.specs.List.{onto_first}
 use Rattle.cards.specs.declared.refusal.Refusal.{Refusal}
 use Rattle.cards.specs.declared.refusal.Refusal.TheVariants as why
-use Rattle.rules.specs.Runs.{answers}
+use Rattle.rules.specs.Runs.{step, answers}
 use Rattle.rules.specs.State.{State}
 use Rattle.rules.specs.declared.answer.Answer.{Answer}
 use Rattle.rules.specs.declared.call.Call.{Call}
 use Rattle.scripts.specs.Lines.{read}
 use Rattle.scripts.specs.Texts.{answer_text, unread_text}
 
--- a byte before the first of some lines; alone where there is none
-abbrev onto : ℕ → List (List ℕ) → List (List ℕ)
-onto byte [] = (byte ∷ []) ∷ []
-onto byte (line ∷ lines) = (byte ∷ line) ∷ lines
+-- the end of a line
+abbrev pub is_end : ℕ → Bool
+is_end byte = byte == 10
 
 -- the lines of a script, each without its end, which is the byte 0A; bytes behind the last 0A are a line too
 abbrev pub lines : List ℕ → List (List ℕ)
 lines [] = []
-lines (byte ∷ script) = cond (byte == 10) ([] ∷ lines script) (onto byte (lines script))
+lines (byte ∷ script) = cond (is_end byte) ([] ∷ lines script) (onto_first byte (lines script))
 
 -- what each line says: a call, or the place of the first word that does not fit
 abbrev pub readings : List ℕ → List (Result Call ℕ)
@@ -35,6 +35,18 @@ told [] rs = []
 told (Err place ∷ said) rs = unread_text place ++ told said rs
 told (Ok c ∷ said) [] = []
 told (Ok c ∷ said) (r ∷ rs) = answer_text c r ++ told said rs
+
+-- ---- one line
+
+-- the state after a line: moved by its call, where it can be read
+abbrev pub moved : State → Result Call ℕ → State
+moved s (Ok c) = (step s c).0
+moved s (Err place) = s
+
+-- the line that answers it
+abbrev pub line_text : State → Result Call ℕ → List ℕ
+line_text s (Ok c) = answer_text c (step s c).1
+line_text s (Err place) = unread_text place
 
 -- ---- a script that is run on a state, and its answers go into lent memory
 

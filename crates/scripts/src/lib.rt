@@ -4,6 +4,8 @@
 mod cursor;
 mod numbers;
 pub mod reading;
+pub mod running;
+mod script;
 mod taking;
 mod text;
 pub mod words;
