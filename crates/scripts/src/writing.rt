@@ -1,5 +1,6 @@
 // Writing a call as a line, and the line that answers one.
-ghost use Rattle.std.specs.Prelude.{◌≡◌, ◌+◌, ◌<◌, ◌≤◌, ◌++◌, length};
+ghost use Rattle.std.specs.Prelude.{◌≡◌, ◌+◌, ◌<◌, ◌≤◌, ◌++◌, length, Ok};
+ghost use Rattle.scripts.specs.Lines.{read};
 ghost use Rattle.scripts.specs.Texts.{letter_of, numbers_of, call_text, outcome_text, given_text, answer_text, unread_text};
 ghost use Rattle.scripts.specs.Scripts.{most_bytes};
 
@@ -56,14 +57,23 @@ fn numbers(line: &mut Line, call: Call)
     }
 }
 
-// The line of a call, without its end.
-pub fn call_line(call: Call) -> Line
-    ensures text { result.bytes ≡ call_text call }
+// The letter and the numbers of a call.
+fn written(call: Call) -> Line
+    ensures { result.bytes ≡ call_text call }
 {
     let mut line = Line::new();
     byte(&mut line, letter_of(call));
     numbers(&mut line, call);
     line
+}
+
+// The line of a call, without its end. It is read as that call.
+#[tactic(auto, using(crate::proofs::Back::read_back))]
+pub fn call_line(call: Call) -> Line
+    ensures text { result.bytes ≡ call_text call }
+    ensures back { read result.bytes ≡ Ok call }
+{
+    written(call)
 }
 
 // What a granted call gives.

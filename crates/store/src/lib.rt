@@ -4,6 +4,7 @@
 mod apply;
 mod asking;
 mod calls;
+mod looking;
 mod making;
 pub mod run;
 mod store;

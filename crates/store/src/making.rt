@@ -2,13 +2,10 @@
 ghost use Rattle.std.specs.Prelude.{◌≡◌, []};
 ghost use Rattle.cards.specs.Versions.{Empty};
 ghost use Rattle.rules.specs.Runs.{Reached};
-ghost use Rattle.rules.specs.State.{seat as seat-of};
 ghost use Rattle.store.specs.View.{view, new_store};
 
 use crate::store::Store;
 use keepers::keeper::Keeper;
-use rules::stage::Stage;
-use seats::numbered::stage_of;
 use table::sizes::Sizes;
 use table::table::Table;
 
@@ -29,13 +26,6 @@ impl<K: Keeper> Store<K> {
             table: Table::new(sizes),
             keeper,
         }
-    }
-
-    // What a seat is doing; a seat above 15 is idle.
-    pub fn stage(&self, seat: u16) -> Stage
-        ensures { result ≡ (seat-of (view K.kept K.places self.now) seat).stage }
-    {
-        stage_of(&self.table.seats, seat)
     }
 
     // Gives the keeper back.

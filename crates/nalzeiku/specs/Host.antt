@@ -1,0 +1,37 @@
+-- What a host of another language is told.
+use Rattle.std.specs.Prelude.{ℕ, zero, suc, Bool, true, false, cond, List, length, ℤ, pos, negsuc, Ok, Err, Result, nat_le}
+use Rattle.cards.specs.Refusals.{number_of}
+use Rattle.cards.specs.declared.refusal.Refusal.{Refusal}
+use Rattle.cards.specs.declared.refusal.Refusal.TheVariants as why
+use Rattle.scratch.specs.Scratch.{scratch_result, scratch_memory}
+
+-- the number below 0
+abbrev pub minus : ℕ → ℤ
+minus zero = pos 0
+minus (suc n) = negsuc n
+
+-- a number of bytes as it is; a refusal as its number below 0
+abbrev pub signed : Result ℕ Refusal → ℤ
+signed (Ok n) = pos n
+signed (Err why) = minus (number_of why)
+
+-- a script may be run by a host: it has 4,096 bytes at most
+abbrev pub suits : List ℕ → Bool
+suits script = nat_le (length script) 4096
+
+-- what is answered over memory of n bytes: how many bytes are written, -13 for a longer script, or -16 where the memory has not 64 bytes for each line
+abbrev pub host_answer : List ℕ → ℕ → ℤ
+host_answer script n = cond (suits script) (signed (scratch_result script n)) (signed (Err why.Sizes))
+
+-- what is answered where no memory can be had for the store: a number that no refusal has
+abbrev pub no_memory : ℤ
+no_memory = negsuc 18
+
+-- a refusal, or no memory
+abbrev pub is_refused : ℤ → Bool
+is_refused (pos n) = false
+is_refused (negsuc n) = true
+
+-- the memory after: the answers at its front, and the bytes behind them as they were; all bytes as they were on a refusal
+abbrev pub host_memory : List ℕ → List ℕ → ℤ → List ℕ
+host_memory script memory answer = cond (is_refused answer) memory (scratch_memory script memory)

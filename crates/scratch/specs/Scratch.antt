@@ -1,0 +1,24 @@
+-- The new store on which a script is run: 2 letters, 1 mark and 1 pair, over a linked keeper of 8 places that holds nothing.
+use Rattle.std.specs.Prelude.{ℕ, List, [], length, None, Result}
+use Rattle.cards.specs.declared.refusal.Refusal.{Refusal}
+use Rattle.rules.specs.Law.{Law}
+use Rattle.rules.specs.Places.{opened}
+use Rattle.rules.specs.Runs.{events, play}
+use Rattle.rules.specs.State.{State}
+use Rattle.scripts.specs.Scripts.{script_calls, script_answers, script_text, script_result, written}
+
+-- its state
+abbrev pub scratch : State
+scratch = opened 2 1 1 8 (λ entry time. None)
+
+-- how many bytes are written for a script over memory of n bytes, or Short
+abbrev pub scratch_result : List ℕ → ℕ → Result ℕ Refusal
+scratch_result script n = script_result scratch script n
+
+-- the memory after a script is run
+abbrev pub scratch_memory : List ℕ → List ℕ → List ℕ
+scratch_memory script memory = written (script_text scratch script (length memory)) memory
+
+-- the law holds of the script's calls and their answers
+abbrev pub ScratchLaw : List ℕ → ℕ → Type 0
+ScratchLaw script n = Law (events [] (script_calls script n) (script_answers scratch script n)) (play scratch (script_calls script n))
