@@ -1,11 +1,30 @@
-.PHONY: run test
+.PHONY: run test host host-test
 
-# Proves what the program needs, builds it and runs it; then holds what it writes to crates/story/stdout.
+# A script under examples/, and where the C host is built.
+SCRIPT = examples/two-designers.script
+HOST = target/host
+C = gcc -std=c11 -O2 -Wall -Wextra -Werror
+
+# Proves what the program needs, builds it, and runs it on a script: each line beside its answer. Then it holds what the
+# program writes to the answers that are kept beside the script.
 run:
-	cd crates/story && rt run
-	test "$$(crates/story/out/story)" = "$$(cat crates/story/stdout)"
+	cd crates/tryout && rt run < stdin > /dev/null
+	crates/tryout/out/tryout < $(SCRIPT) | paste -d '\t' $(SCRIPT) - | expand -t 24
+	crates/tryout/out/tryout < $(SCRIPT) | cmp - $(SCRIPT:.script=.answers)
 
 # The whole gate, and the misuses that the compiler has to refuse.
 test:
 	bash .ci/run
 	sh tools/misuses.sh
+
+# The C program over the static library. The toolchain's liblibc_c.a has what the library asks of malloc and free.
+host:
+	cd crates/nalzeiku && rt lib
+	mkdir -p $(HOST)
+	$(C) host/run.c crates/nalzeiku/out/libnalzeiku.a "$$(dirname "$$(rt doc)")/c/liblibc_c.a" -o $(HOST)/run
+	$(HOST)/run examples/save.script | cmp - examples/save.answers
+
+# The limits of the library, from C.
+host-test: host
+	$(C) -Wl,--wrap=malloc host/test.c crates/nalzeiku/out/libnalzeiku.a "$$(dirname "$$(rt doc)")/c/liblibc_c.a" -o $(HOST)/test
+	$(HOST)/test

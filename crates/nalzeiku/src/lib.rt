@@ -1,7 +1,7 @@
 // The store for a host that is written in C: a static library with one function, which `host/nalzeiku.h` declares.
 #![tactic(auto)]
 
-ghost use Rattle.std.specs.Prelude.{◌≡◌, ◌⊎◌, length, true};
+ghost use Rattle.std.specs.Prelude.{◌≡◌, ◌⊎◌, false, length, true};
 ghost use Rattle.cards.specs.Refusals.{number_of};
 ghost use Rattle.scratch.specs.Scratch.{ScratchLaw};
 ghost use Rattle.nalzeiku.specs.Host.{host_answer, no_memory, is_refused, host_memory, minus};
@@ -31,7 +31,7 @@ pub extern "C" fn nalzeiku_run(alloc: Global, script: &[u8], memory: &mut [u8]) 
     ensures answer { (result ≡ no_memory) ⊎ (result ≡ host_answer script.now (length memory.old)) }
     ensures declined { is_refused (host_answer script.now (length memory.old)) ≡ true → result ≡ host_answer script.now (length memory.old) }
     ensures memory { memory.new ≡ host_memory script.now memory.old result }
-    ensures law { ScratchLaw script.now (length memory.old) }
+    ensures law { is_refused result ≡ false → ScratchLaw script.now (length memory.old) }
 {
     if script.len() > MOST_SCRIPT {
         return refused(Refusal::Sizes);

@@ -1,7 +1,7 @@
 // A script run on a new, small store: what the try-out program and the C host do.
 #![tactic(auto)]
 
-ghost use Rattle.std.specs.Prelude.{◌≡◌, false, Err, IfErr, IfOk, Ok, length};
+ghost use Rattle.std.specs.Prelude.{◌≡◌, false, Err, IfErr, IfOk, IsOk, Ok, length};
 ghost use Rattle.scratch.specs.Scratch.{scratch, scratch_result, scratch_memory, ScratchLaw};
 ghost use Rattle.scripts.specs.Scripts.{has_room};
 ghost use Rattle.cards.specs.declared.refusal.Refusal.TheVariants as why;
@@ -44,7 +44,7 @@ pub fn run_on_scratch(
     ensures memory { IfOk result (λ r. memory.new ≡ scratch_memory script.now memory.old) }
     ensures error { IfErr result (λ e. memory.new ≡ memory.old) }
     ensures short { has_room script.now (length memory.old) ≡ false → result ≡ Ok (Err why.Short) }
-    ensures law { ScratchLaw script.now (length memory.old) }
+    ensures law { IsOk result → ScratchLaw script.now (length memory.old) }
 {
     if memory.len() < room_for(script) {
         return Ok(Err(Refusal::Short));
