@@ -10,7 +10,7 @@ use Rattle.rules.specs.declared.call.Call.{Call}
 use Rattle.rules.specs.declared.call.Call.TheVariants as call
 use Rattle.scripts.specs.Words.{is_space, words, letter}
 use Rattle.scripts.specs.Numbers.{field}
-use Rattle.scripts.specs.Lines.{Left, first, or_place, fit, next, end_of, end, plain, bit_map, alone, read_of, fit_if, next_if, bit_of, card_of, write_of, call_of, all_of, read_words, read, ◌>>=◌}
+use Rattle.scripts.specs.Lines.{Left, or_place, fit, next, end_of, end, plain, bit_map, alone, read_of, fit_if, next_if, bit_of, card_of, write_of, call_of, all_of, read_words, read, ◌>>=◌}
 use Rattle.scripts.specs.Texts.{spaced, spaced_field, card_text, call_text}
 use Rattle.scripts.proofs.CardBack.{at, map_sum}
 use Rattle.scripts.proofs.OneWord.{number_once, field_once, letter_once}
@@ -112,17 +112,17 @@ card_once map l c small e =
     let l₄ = next_if (bit_of map 8) l₃ in
     let l₅ = next_if (bit_of map 16) l₄ in
     let l₆ = next_if (bit_of map 32) l₅ in
-    let a = field_steps (bit_of map 1) l _ c e in
-    let b = field_steps (bit_of map 2) l₁ _ c a.2 in
-    let d = field_steps (bit_of map 4) l₂ _ c b.2 in
-    let f = field_steps (bit_of map 8) l₃ _ c d.2 in
-    let g = field_steps (bit_of map 16) l₄ _ c f.2 in
-    let h = field_steps (bit_of map 32) l₅ _ c g.2 in
-    let none = steps (end l₆) _ c h.2 in
-    let made : Card = record { advance = a.0; left_bearing = b.0; anchor_across = d.0; anchor_up = f.0; mark_class = g.0; kern = h.0 } in
-    let sum : map ≡ map_of made = omega (arith, six_bits map small, map_sum made, bit_told a.0 map 1 a.1.0, bit_told b.0 map 2 b.1.0, bit_told d.0 map 4 d.1.0, bit_told f.0 map 8 f.1.0, bit_told g.0 map 16 g.1.0, bit_told h.0 map 32 h.1.0) in
+    let advance = field_steps (bit_of map 1) l _ c e in
+    let left_bearing = field_steps (bit_of map 2) l₁ _ c advance.2 in
+    let anchor_across = field_steps (bit_of map 4) l₂ _ c left_bearing.2 in
+    let anchor_up = field_steps (bit_of map 8) l₃ _ c anchor_across.2 in
+    let mark_class = field_steps (bit_of map 16) l₄ _ c anchor_up.2 in
+    let kern = field_steps (bit_of map 32) l₅ _ c mark_class.2 in
+    let none = steps (end l₆) _ c kern.2 in
+    let made : Card = record { advance = advance.0; left_bearing = left_bearing.0; anchor_across = anchor_across.0; anchor_up = anchor_up.0; mark_class = mark_class.0; kern = kern.0 } in
+    let sum : map ≡ map_of made = omega (arith, six_bits map small, map_sum made, bit_told advance.0 map 1 advance.1.0, bit_told left_bearing.0 map 2 left_bearing.1.0, bit_told anchor_across.0 map 4 anchor_across.1.0, bit_told anchor_up.0 map 8 anchor_up.1.0, bit_told mark_class.0 map 16 mark_class.1.0, bit_told kern.0 map 32 kern.1.0) in
     let text : spaced map ++ rest l ≡ card_text made =
-        rw (sym sum, a.1.1, b.1.1, d.1.1, f.1.1, g.1.1, h.1.1, none_once l₆.words l₆.place none.0 none.1, append-nil (spaced_field h.0)) in
+    rw (sym sum, advance.1.1, left_bearing.1.1, anchor_across.1.1, anchor_up.1.1, mark_class.1.1, kern.1.1, none_once l₆.words l₆.place none.0 none.1, append-nil (spaced_field kern.0)) in
     text ∙ ap card_text (same_Ok made c none.2)
 
 map_once : (l : Left) (map : ℕ) → fit bit_map l ≡ Ok map → (rest l ≡ spaced map ++ rest (next l)) × (map ≤ 63)
@@ -141,7 +141,7 @@ write_once l c e =
     let card = steps (card_of map.0 (next (next (next l)))) _ c map.2 in
     let m = map_once (next (next l)) map.0 map.1 in
     let text : 119 ∷ rest l ≡ call_text (call.Write seat.0 entry.0 card.0) =
-        rw (plain_once l seat.0 seat.1, plain_once (next l) entry.0 entry.1, m.0, card_once map.0 (next (next (next l))) card.0 m.1 card.1) in
+    rw (plain_once l seat.0 seat.1, plain_once (next l) entry.0 entry.1, m.0, card_once map.0 (next (next (next l))) card.0 m.1 card.1) in
     text ∙ ap call_text (same_Ok (call.Write seat.0 entry.0 card.0) c card.2)
 
 -- a call that has one number

@@ -1,5 +1,5 @@
 -- A word that is read to a number, a field or a letter is the word that is written for it.
-use Rattle.std.proofs.Common.{◌≡◌, ℕ, zero, suc, ◌+◌, ◌<◌, ◌≤◌, Bool, true, false, cond, ◌&&◌, ◌==◌, List, [], ◌∷◌, drop, length, get_or, ℤ, pos, negsuc, nat_lt, nat_le, Option, None, Some, option_map, option_and_then, decimal, refl, sym, ap, ◌∙◌, subst, ⊎_elim, arith}
+use Rattle.std.proofs.Common.{◌≡◌, ℕ, zero, suc, ◌<◌, ◌≤◌, Bool, true, false, cond, ◌&&◌, ◌==◌, List, [], ◌∷◌, drop, length, get_or, ℤ, pos, negsuc, nat_lt, nat_le, Option, None, Some, option_map, option_and_then, decimal, refl, sym, ap, ◌∙◌, subst, ⊎_elim, arith}
 use Rattle.std.specs.Fmt.{signed_decimal}
 use Rattle.std.specs.Char.{is_ascii_digit}
 use Rattle.std.specs.Str.{all_ascii_digits}
