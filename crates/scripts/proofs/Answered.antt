@@ -1,7 +1,7 @@
 -- The lines of a script answered one by one into lent memory, and the law of their calls.
-use Rattle.std.proofs.Common.{◌≡◌, ℕ, ◌+◌, ◌-◌, ◌*◌, ◌<◌, ◌≤◌, List, [], ◌∷◌, ◌++◌, length, map, take, drop, Ok, Err, Result, sym, refl, ap, ◌∙◌, subst, arith}
+use Rattle.std.proofs.Common.{◌≡◌, ℕ, ◌+◌, ◌*◌, ◌≤◌, List, ◌∷◌, ◌++◌, length, map, take, drop, Ok, Err, Result, sym, refl, ap, ◌∙◌, subst, arith}
 use Rattle.std.proofs.Math.Seq.{take-append_seam, drop-append_seam}
-use Rattle.std.proofs.lemmas.List.{append_assoc, append-nil, length-append, length-take-le, nil_from_length, drop-drop, take-append-drop}
+use Rattle.std.proofs.lemmas.List.{append_assoc, length-append, length-take-le, drop-drop}
 use Rattle.rules.proofs.Law.{law_holds_lem}
 use Rattle.rules.proofs.Runs.{play_reached}
 use Rattle.rules.specs.Runs.{Event, events, Reached, answers, play}
@@ -9,7 +9,7 @@ use Rattle.rules.specs.State.{State}
 use Rattle.rules.specs.declared.call.Call.{Call}
 use Rattle.store.specs.Runs.{LawfulRun}
 use Rattle.scripts.specs.Lines.{read}
-use Rattle.scripts.specs.Scripts.{lines, readings, calls_in, told, moved, line_text, most_bytes, written}
+use Rattle.scripts.specs.Scripts.{lines, readings, calls_in, told, moved, line_text, most_bytes}
 
 -- the first of some lines, and the rest
 moved_first : (s : State) (r : Result Call ℕ) (said : List (Result Call ℕ)) → play s (calls_in (r ∷ said)) ≡ play (moved s r) (calls_in said)

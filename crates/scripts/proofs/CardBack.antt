@@ -109,7 +109,7 @@ six_bits : (a b c d e f map : ℕ) → a ≤ 1 → b ≤ 1 → c ≤ 1 → d ≤
     → (map / 1 % 2 ≡ a) × (map / 2 % 2 ≡ b) × (map / 4 % 2 ≡ c) × (map / 8 % 2 ≡ d) × (map / 16 % 2 ≡ e) × (map / 32 % 2 ≡ f) × (map ≤ 63)
 six_bits a b c d e f map p q r s t u is = (omega arith, omega arith, omega arith, omega arith, omega arith, omega arith, omega arith)
 
-map_sum : (c : Card) → map_of c ≡ bit c.advance 1 + 2 * bit c.left_bearing 1 + 4 * bit c.anchor_across 1 + 8 * bit c.anchor_up 1 + 16 * bit c.mark_class 1 + 32 * bit c.kern 1
+pub map_sum : (c : Card) → map_of c ≡ bit c.advance 1 + 2 * bit c.left_bearing 1 + 4 * bit c.anchor_across 1 + 8 * bit c.anchor_up 1 + 16 * bit c.mark_class 1 + 32 * bit c.kern 1
 map_sum c = omega (arith, bit_worth c.left_bearing 2, bit_worth c.anchor_across 4, bit_worth c.anchor_up 8, bit_worth c.mark_class 16, bit_worth c.kern 32)
 
 map_told : (c : Card) → Told (map_of c) six (fields c) × (map_of c ≤ 63)

@@ -1,6 +1,7 @@
 // Reading a line to its call.
-ghost use Rattle.std.specs.Prelude.{◌≡◌, ℕ, ◌≤◌};
+ghost use Rattle.std.specs.Prelude.{◌≡◌, ℕ, ◌≤◌, IfOk};
 ghost use Rattle.scripts.specs.Lines.{alone, read_of, card_of, write_of, call_of, read_words, read};
+ghost use Rattle.scripts.specs.Texts.{call_text};
 ghost use Rattle.scripts.specs.View.{left_of};
 
 use crate::cursor::Cursor;
@@ -94,7 +95,7 @@ fn call_behind(letter: char, words: &mut Cursor<'_>) -> Result<Call, u32>
 
 // The call of a line, or the place of the first word that does not fit, from 1; 0 for a line that is too long.
 #[tactic(auto, unfolding(crate::specs::Lines::read_words))]
-pub fn read_line(line: &[u8]) -> Result<Call, u32>
+fn call_in(line: &[u8]) -> Result<Call, u32>
     ensures { result ≡ read line.now }
 {
     if line.len() > LONGEST {
@@ -103,4 +104,13 @@ pub fn read_line(line: &[u8]) -> Result<Call, u32>
     let mut words = Cursor::new(line);
     let letter = words.letter()?;
     call_behind(letter, &mut words)
+}
+
+// The same; and no call is read from another line than the one that is written for it.
+#[tactic(auto, using(crate::proofs::Once::answer_once))]
+pub fn read_line(line: &[u8]) -> Result<Call, u32>
+    ensures answer { result ≡ read line.now }
+    ensures line { IfOk result (λ c. line.now ≡ call_text c) }
+{
+    call_in(line)
 }
