@@ -12,10 +12,11 @@ run:
 	crates/tryout/out/tryout < $(SCRIPT) | paste -d '\t' $(SCRIPT) - | expand -t 24
 	crates/tryout/out/tryout < $(SCRIPT) | cmp - $(SCRIPT:.script=.answers)
 
-# The whole gate, the misuses that the compiler has to refuse, and the C host.
+# The whole gate, the misuses that the compiler has to refuse, whole inputs of the try-out program, and the C host.
 test:
 	bash .ci/run
 	sh tools/misuses.sh
+	sh tools/tryout.sh
 	$(MAKE) host-test
 
 # The C program over the static library. The toolchain's liblibc_c.a has what the library asks of malloc and free.

@@ -46,5 +46,9 @@ int main(int argc, char **argv)
         fprintf(stderr, "%s: %s (%lld)\n", argv[1], words_of(written), (long long)written);
         return 1;
     }
-    return fwrite(answers, 1, (size_t)written, stdout) == (size_t)written ? 0 : 1;
+    if (fwrite(answers, 1, (size_t)written, stdout) != (size_t)written || fflush(stdout) != 0) {
+        perror("stdout");
+        return 1;
+    }
+    return 0;
 }

@@ -97,8 +97,8 @@ static void limits(void)
           "one line of 4,096 bytes");
     memset(longest, ' ', sizeof longest);
     memcpy(longest, "p 1", 3);
-    check(run(longest, 80, NALZEIKU_LINE) == 7 && memcmp(memory, "? 14 3\n", 7) == 0, "a line of 80 bytes is read");
-    check(run(longest, 81, NALZEIKU_LINE) == 7 && memcmp(memory, "? 14 0\n", 7) == 0, "a line of 81 is not");
+    check(run(longest, 80, NALZEIKU_LINE) == 7 && memcmp(memory, "? 14 3\n", 7) == 0, "a line of 80 bytes is looked at");
+    check(run(longest, 81, NALZEIKU_LINE) == 7 && memcmp(memory, "? 14 0\n", 7) == 0, "a line of 81 is too long");
 }
 
 static void without_memory(void)

@@ -93,6 +93,7 @@ fn saved<K: Keeper>(rt: &impl Abort, store: &mut Store<K>) {
     );
     let mut enough = [UNTOUCHED; 128];
     assert_eq!(rt; run_script(store, b"q 0\nr 2 0", &mut enough), Ok(14));
+    assert!(rt; enough.starts_with(b"q 0\nr 0 1 620\n"));
 }
 
 #[test]

@@ -29,7 +29,7 @@ calls_in [] = []
 calls_in (Ok c ∷ said) = c ∷ calls_in said
 calls_in (Err place ∷ said) = calls_in said
 
--- the line that answers each: a call's takes the next of the answers, one that cannot be read says so
+-- the line that answers each: a call's takes the next of the answers, of which there is one for each call; one that cannot be read says so
 abbrev pub told : List (Result Call ℕ) → List (Result Answer Refusal) → List ℕ
 told [] rs = []
 told (Err place ∷ said) rs = unread_text place ++ told said rs
