@@ -1,4 +1,4 @@
-.PHONY: run test
+.PHONY: run test bench
 
 # Proves what the program needs, builds it and runs it; then holds what it writes to crates/story/stdout.
 run:
@@ -9,3 +9,7 @@ run:
 test:
 	bash .ci/run
 	sh tools/misuses.sh
+
+# What the store costs beside other stores.
+bench:
+	$(MAKE) -C bench run

@@ -1,7 +1,7 @@
 // Collects of entries whose old versions none needs, until each has its newest left.
-use crate::kinds::{Kind, opened};
-use crate::rounds::{Pace, Round, since, tell};
-use crate::saves::save_some;
+use crate::kinds::Kind;
+use crate::rounds::{Extent, Pace, Round, since, tell};
+use crate::saves::{filled, save_some};
 use keepers::keeper::Keeper;
 use std::io;
 use std::time::Instant;
@@ -35,16 +35,15 @@ fn round<K: Kind>(
     rt: &HostRuntime,
     pace: Pace,
     entries: &[u16],
-    versions: u32,
+    extent: Extent,
 ) -> io::Result<Round> {
-    let mut store = opened::<K>(rt.alloc(), entries.len())?;
-    fill(&mut store, entries, 1);
+    let mut store = filled::<K>(rt.alloc(), extent.entries)?;
     let mut all = Round::NONE;
     for _ in 0..pace.batches {
         if all.operations > 0 && all.nanos >= pace.least {
             return Ok(all);
         }
-        let more = versions.saturating_sub(1);
+        let more = extent.versions.saturating_sub(1);
         fill(&mut store, entries, more);
         let start = Instant::now(rt)?;
         let mut batch = collect_all(&mut store, entries, more);
@@ -66,9 +65,10 @@ pub fn collecting<K: Kind>(
         numbers.push(entry)?;
     }
     let numbers = numbers.as_slice();
-    let mut best = round::<K>(rt, pace, numbers, versions)?;
+    let extent = Extent { entries, versions };
+    let mut best = round::<K>(rt, pace, numbers, extent)?;
     for _ in 1..pace.rounds {
-        best = best.or_better(round::<K>(rt, pace, numbers, versions)?);
+        best = best.or_better(round::<K>(rt, pace, numbers, extent)?);
     }
-    tell(rt, pace, K::name(), "collect", versions, best)
+    tell(rt, pace, K::name(), "collect", extent, best)
 }

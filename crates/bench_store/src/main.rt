@@ -21,10 +21,12 @@ use std::{env, io};
 
 // Every workload over one kind of keeper.
 fn all<K: Kind>(rt: &HostRuntime, pace: Pace) -> io::Result<()> {
-    for versions in [1, 10, 1000] {
-        reading::<K>(rt, pace, versions)?;
+    for entries in [1, 1024] {
+        for versions in [1, 10, 1000] {
+            reading::<K>(rt, pace, entries, versions)?;
+        }
+        saving::<K>(rt, pace, entries)?;
     }
-    saving::<K>(rt, pace)?;
     collecting::<K>(rt, pace, 16, 10)?;
     collecting::<K>(rt, pace, 1, 1000)
 }

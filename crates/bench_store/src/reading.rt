@@ -1,7 +1,7 @@
 // Reads of one entry by a proof: one that began when the entry had a single version, and one that began when it had all.
-use crate::kinds::{Kind, opened};
-use crate::rounds::{Pace, Round, since, tell};
-use crate::saves::save_some;
+use crate::kinds::Kind;
+use crate::rounds::{Extent, Pace, Round, since, tell};
+use crate::saves::{filled, save_some};
 use keepers::keeper::Keeper;
 use std::io;
 use std::time::Instant;
@@ -63,14 +63,14 @@ fn enough<K: Keeper>(
     Ok(passes)
 }
 
-// The best round of one seat's reads.
+// The best round of reads of one kind.
 fn best<K: Keeper>(
     rt: &HostRuntime,
     pace: Pace,
     store: &mut Store<K>,
-    seat: u16,
+    look: Look,
 ) -> io::Result<Round> {
-    let looks = vec![in rt.alloc(); Look { seat, entry: 0 }; LOOKS]?;
+    let looks = vec![in rt.alloc(); look; LOOKS]?;
     let looks = looks.as_slice();
     let passes = enough(rt, pace, store, looks)?;
     let mut best = round(rt, store, looks, passes)?;
@@ -80,15 +80,21 @@ fn best<K: Keeper>(
     Ok(best)
 }
 
-// Both reads of an entry with so many versions.
-pub fn reading<K: Kind>(rt: &HostRuntime, pace: Pace, versions: u32) -> io::Result<()> {
-    let mut store = opened::<K>(rt.alloc(), 1)?;
-    save_some(&mut store, 0, 1, 1);
+// Both reads of an entry with so many versions, where each of the others has one.
+pub fn reading<K: Kind>(
+    rt: &HostRuntime,
+    pace: Pace,
+    entries: u16,
+    versions: u32,
+) -> io::Result<()> {
+    let mut store = filled::<K>(rt.alloc(), entries)?;
+    let entry = entries / 2;
     let _ = store.proof(0);
-    save_some(&mut store, 0, 2, versions.saturating_sub(1));
+    save_some(&mut store, entry, 2, versions.saturating_sub(1));
     let _ = store.proof(1);
-    let old = best(rt, pace, &mut store, 0)?;
-    tell(rt, pace, K::name(), "read-old", versions, old)?;
-    let new = best(rt, pace, &mut store, 1)?;
-    tell(rt, pace, K::name(), "read-new", versions, new)
+    let extent = Extent { entries, versions };
+    let old = best(rt, pace, &mut store, Look { seat: 0, entry })?;
+    tell(rt, pace, K::name(), "read-old", extent, old)?;
+    let new = best(rt, pace, &mut store, Look { seat: 1, entry })?;
+    tell(rt, pace, K::name(), "read-new", extent, new)
 }

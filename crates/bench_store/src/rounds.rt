@@ -67,13 +67,20 @@ pub fn since(rt: &HostRuntime, start: Instant) -> io::Result<u64> {
     Ok(u64::try_from(start.elapsed(rt)?.as_nanos()).unwrap_or(u64::MAX))
 }
 
-// The line of a workload: who ran it, what it was, with how many versions, the operations, the sum and the nanoseconds.
+// How many entries a workload has, and how many versions of those that it goes by.
+#[derive(Clone, Copy)]
+pub struct Extent {
+    pub entries: u16,
+    pub versions: u32,
+}
+
+// The line of a workload: who ran it, what it was, with how many entries and versions, the operations, the sum and the nanoseconds.
 pub fn tell(
     rt: &HostRuntime,
     pace: Pace,
     who: &str,
     what: &str,
-    versions: u32,
+    extent: Extent,
     best: Round,
 ) -> io::Result<()> {
     let Round {
@@ -81,8 +88,9 @@ pub fn tell(
         operations,
         sum,
     } = best;
+    let Extent { entries, versions } = extent;
     if pace.timed {
-        return println!(rt; "{who} {what} {versions} {operations} {sum} {nanos}");
+        return println!(rt; "{who} {what} {entries} {versions} {operations} {sum} {nanos}");
     }
-    println!(rt; "{who} {what} {versions} {operations} {sum}")
+    println!(rt; "{who} {what} {entries} {versions} {operations} {sum}")
 }

@@ -1,7 +1,9 @@
 // Saving, by the calls that it takes.
+use crate::kinds::{Kind, opened};
 use cards::card::Card;
 use cards::refusal::Refusal;
 use keepers::keeper::Keeper;
+use std::alloc::{AllocError, Global};
 use store::Store;
 
 // A letter's card. The advance says which it is.
@@ -42,4 +44,13 @@ pub fn save_some<K: Keeper>(store: &mut Store<K>, entry: u16, first: u32, versio
         };
         let _ = save(store, wish);
     }
+}
+
+// A store of so many letters, with a version of each.
+pub fn filled<K: Kind>(alloc: Global, letters: u16) -> Result<Store<K>, AllocError> {
+    let mut store = opened::<K>(alloc, usize::from(letters))?;
+    for entry in 0..letters {
+        save_some(&mut store, entry, 1, 1);
+    }
+    Ok(store)
 }

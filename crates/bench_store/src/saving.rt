@@ -1,7 +1,7 @@
 // Whole saves of one draft: batches of them, with the collects between the batches and not timed; and each with its collect.
-use crate::kinds::{Kind, opened};
-use crate::rounds::{Pace, Round, since, tell};
-use crate::saves::{Wish, letter, save, save_some};
+use crate::kinds::Kind;
+use crate::rounds::{Extent, Pace, Round, since, tell};
+use crate::saves::{Wish, filled, letter, save};
 use keepers::keeper::Keeper;
 use std::io;
 use std::time::Instant;
@@ -61,11 +61,17 @@ fn batch<K: Keeper>(
 fn round<K: Kind>(
     rt: &HostRuntime,
     pace: Pace,
-    wishes: &[Wish],
+    entries: u16,
     collecting: bool,
 ) -> io::Result<Round> {
-    let mut store = opened::<K>(rt.alloc(), 1)?;
-    save_some(&mut store, 0, 1, 1);
+    let mut store = filled::<K>(rt.alloc(), entries)?;
+    let wish = Wish {
+        seat: 4,
+        entry: entries / 2,
+        card: letter(620),
+    };
+    let wishes = vec![in rt.alloc(); wish; BATCH]?;
+    let wishes = wishes.as_slice();
     let mut all = Round::NONE;
     for _ in 0..pace.batches {
         all = all.and(batch(rt, &mut store, wishes, collecting)?);
@@ -73,25 +79,27 @@ fn round<K: Kind>(
     Ok(all)
 }
 
-fn best<K: Kind>(rt: &HostRuntime, pace: Pace, collecting: bool) -> io::Result<Round> {
-    let wish = Wish {
-        seat: 4,
-        entry: 0,
-        card: letter(620),
-    };
-    let wishes = vec![in rt.alloc(); wish; BATCH]?;
-    let wishes = wishes.as_slice();
-    let mut best = round::<K>(rt, pace, wishes, collecting)?;
+fn best<K: Kind>(
+    rt: &HostRuntime,
+    pace: Pace,
+    entries: u16,
+    collecting: bool,
+) -> io::Result<Round> {
+    let mut best = round::<K>(rt, pace, entries, collecting)?;
     for _ in 1..pace.rounds {
-        best = best.or_better(round::<K>(rt, pace, wishes, collecting)?);
+        best = best.or_better(round::<K>(rt, pace, entries, collecting)?);
     }
     Ok(best)
 }
 
-// Both kinds of save.
-pub fn saving<K: Kind>(rt: &HostRuntime, pace: Pace) -> io::Result<()> {
-    let alone = best::<K>(rt, pace, false)?;
-    tell(rt, pace, K::name(), "save", 1, alone)?;
-    let collected = best::<K>(rt, pace, true)?;
-    tell(rt, pace, K::name(), "save-collect", 1, collected)
+// Both kinds of save, in a store of so many entries with one version each.
+pub fn saving<K: Kind>(rt: &HostRuntime, pace: Pace, entries: u16) -> io::Result<()> {
+    let extent = Extent {
+        entries,
+        versions: 1,
+    };
+    let alone = best::<K>(rt, pace, entries, false)?;
+    tell(rt, pace, K::name(), "save", extent, alone)?;
+    let collected = best::<K>(rt, pace, entries, true)?;
+    tell(rt, pace, K::name(), "save-collect", extent, collected)
 }
