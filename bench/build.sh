@@ -30,7 +30,7 @@ fi
 
 if has rustc; then
     echo "bench: builds the plain Rust"
-    rustc --edition 2021 -C opt-level=3 -C codegen-units=1 -A dead_code -o out/plain plain/main.rs ||
+    rustc --edition 2021 -C opt-level=3 -C codegen-units=1 -C target-cpu=x86-64-v2 -A dead_code -o out/plain plain/main.rs ||
         missing "the plain Rust is not built"
 else
     missing "rustc is missing, so there is no plain Rust"

@@ -11,7 +11,7 @@ use store::Store;
 
 const ROUNDS: usize = 9;
 const LEAST: u64 = 20_000_000;
-const BATCHES: usize = 6000;
+const BATCHES: usize = 3000;
 const BATCH: usize = 128;
 const LOOKS: usize = 64;
 const PLACES: usize = 2048;

@@ -24,7 +24,7 @@ impl Pace {
         timed: true,
         rounds: 9,
         least: 20000000,
-        batches: 6000,
+        batches: 3000,
     };
 }
 
