@@ -15,8 +15,8 @@
 
 namespace {
 
-constexpr int kRounds = 9;
-constexpr uint64_t kLeast = 20000000;
+constexpr int kRounds = 40;
+constexpr uint64_t kLeast = 5000000;
 constexpr int kLooks = 64;
 
 struct Round {

@@ -10,8 +10,8 @@
 
 #include <lmdb.h>
 
-enum { ROUNDS = 9, LOOKS = 64, WISHES = 128 };
-static const uint64_t LEAST = 20000000;
+enum { ROUNDS = 40, LOOKS = 64, WISHES = 128 };
+static const uint64_t LEAST = 5000000;
 
 struct round {
     uint64_t nanos, operations, sum;

@@ -9,9 +9,9 @@ use std::hint::black_box;
 use std::time::Instant;
 use store::Store;
 
-const ROUNDS: usize = 9;
-const LEAST: u64 = 20_000_000;
-const BATCHES: usize = 3000;
+const ROUNDS: usize = 40;
+const LEAST: u64 = 5_000_000;
+const BATCHES: usize = 600;
 const BATCH: usize = 128;
 const LOOKS: usize = 64;
 const PLACES: usize = 2048;

@@ -22,9 +22,9 @@ impl Pace {
 
     pub const LONG: Pace = Pace {
         timed: true,
-        rounds: 9,
-        least: 20000000,
-        batches: 3000,
+        rounds: 40,
+        least: 5000000,
+        batches: 600,
     };
 }
 
