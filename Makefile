@@ -1,4 +1,4 @@
-.PHONY: run test host host-test
+.PHONY: run test host host-test bench
 
 # A script under examples/, and where the C host is built.
 SCRIPT = examples/two-designers.script
@@ -30,3 +30,7 @@ host:
 host-test: host
 	$(C) -Wl,--wrap=malloc host/test.c crates/nalzeiku/out/libnalzeiku.a "$$(dirname "$$(rt doc)")/c/liblibc_c.a" -o $(HOST)/test
 	$(HOST)/test
+
+# What the store costs beside other stores.
+bench:
+	$(MAKE) -C bench run
