@@ -10,9 +10,8 @@ enum { NALZEIKU_SCRIPT = 4096, NALZEIKU_LINE = 64 };
 
 /* What is answered in place of a length. */
 enum {
-    NALZEIKU_SIZES = -13,    /* the script is longer than NALZEIKU_SCRIPT */
-    NALZEIKU_SHORT = -16,    /* the memory has not NALZEIKU_LINE bytes for each line */
-    NALZEIKU_NO_MEMORY = -19 /* malloc gave nothing */
+    NALZEIKU_SIZES = -13, /* the script is longer than NALZEIKU_SCRIPT */
+    NALZEIKU_SHORT = -16  /* the memory has not NALZEIKU_LINE bytes for each line */
 };
 
 /*

@@ -16,8 +16,6 @@ static const char *words_of(int64_t why)
         return "the script is too long";
     case NALZEIKU_SHORT:
         return "the answers have too little room";
-    case NALZEIKU_NO_MEMORY:
-        return "there is no memory for the store";
     default:
         return "declined";
     }

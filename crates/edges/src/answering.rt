@@ -17,9 +17,9 @@ use store::{Sizes, Store};
 const UNTOUCHED: u8 = 0xA5;
 
 // A script on a new store answers this, and the memory behind it stays.
-fn answers(rt: &impl Abort, heap: Global, script: &[u8], want: &[u8]) -> Result<(), Fail> {
+fn answers(rt: &impl Abort, heap: Global, script: &[u8], want: &[u8]) {
     let mut memory = [UNTOUCHED; 1024];
-    let written = run_on_scratch(heap, script, &mut memory)?;
+    let written = run_on_scratch(heap, script, &mut memory);
     assert_eq!(rt; written, Ok(want.len()));
     assert!(rt; memory.starts_with(want));
     assert!(rt;
@@ -27,55 +27,53 @@ fn answers(rt: &impl Abort, heap: Global, script: &[u8], want: &[u8]) -> Result<
             .iter()
             .all(|byte| *byte == UNTOUCHED)
     );
-    Ok(())
 }
 
 // With a byte of room less than each line asks for, a script is declined, and no byte is touched; with all of it, it is not.
-fn needs(rt: &impl Abort, heap: Global, script: &[u8], room: usize) -> Result<(), Fail> {
+fn needs(rt: &impl Abort, heap: Global, script: &[u8], room: usize) {
     assert_eq!(rt; room_for(script), room);
     let mut memory = [UNTOUCHED; 1024];
     let room = room.min(1024);
     if room > 0 {
-        let written = run_on_scratch(heap, script, &mut memory[..room - 1])?;
+        let written = run_on_scratch(heap, script, &mut memory[..room - 1]);
         assert_eq!(rt; written, Err(Refusal::Short));
         assert_eq!(rt; memory, [UNTOUCHED; 1024]);
     }
-    let written = run_on_scratch(heap, script, &mut memory[..room])?;
+    let written = run_on_scratch(heap, script, &mut memory[..room]);
     assert!(rt; written.is_ok());
-    Ok(())
 }
 
 #[test]
-fn lines_and_their_ends(rt: HostRuntime) -> Result<(), Fail> {
-    answers(&rt, rt.alloc(), b"", b"")?;
-    answers(&rt, rt.alloc(), b"\n", b"? 14 1\n")?;
-    answers(&rt, rt.alloc(), b"\n\n", b"? 14 1\n? 14 1\n")?;
-    answers(&rt, rt.alloc(), b"p 1", b"p 0 0\n")?;
-    answers(&rt, rt.alloc(), b"p 1\n", b"p 0 0\n")?;
-    answers(&rt, rt.alloc(), b"p 1\n\nq 1", b"p 0 0\n? 14 1\nq 0\n")?;
-    answers(&rt, rt.alloc(), b"p 1\r\n", b"? 14 2\n")?;
-    answers(&rt, rt.alloc(), b"p 1\n ", b"p 0 0\n? 14 1\n")
+fn lines_and_their_ends(rt: HostRuntime) {
+    answers(&rt, rt.alloc(), b"", b"");
+    answers(&rt, rt.alloc(), b"\n", b"? 14 1\n");
+    answers(&rt, rt.alloc(), b"\n\n", b"? 14 1\n? 14 1\n");
+    answers(&rt, rt.alloc(), b"p 1", b"p 0 0\n");
+    answers(&rt, rt.alloc(), b"p 1\n", b"p 0 0\n");
+    answers(&rt, rt.alloc(), b"p 1\n\nq 1", b"p 0 0\n? 14 1\nq 0\n");
+    answers(&rt, rt.alloc(), b"p 1\r\n", b"? 14 2\n");
+    answers(&rt, rt.alloc(), b"p 1\n ", b"p 0 0\n? 14 1\n");
 }
 
 #[test]
-fn the_room_for_answers(rt: HostRuntime) -> Result<(), Fail> {
-    needs(&rt, rt.alloc(), b"", 0)?;
-    needs(&rt, rt.alloc(), b"\n", 64)?;
-    needs(&rt, rt.alloc(), b"p 1", 64)?;
-    needs(&rt, rt.alloc(), b"p 1\n", 64)?;
-    needs(&rt, rt.alloc(), b"p 1\nx", 128)?;
-    needs(&rt, rt.alloc(), b"\n\n\n\n\n\n\n\n\n\n\n\n\n\n\n\n", 1024)
+fn the_room_for_answers(rt: HostRuntime) {
+    needs(&rt, rt.alloc(), b"", 0);
+    needs(&rt, rt.alloc(), b"\n", 64);
+    needs(&rt, rt.alloc(), b"p 1", 64);
+    needs(&rt, rt.alloc(), b"p 1\n", 64);
+    needs(&rt, rt.alloc(), b"p 1\nx", 128);
+    needs(&rt, rt.alloc(), b"\n\n\n\n\n\n\n\n\n\n\n\n\n\n\n\n", 1024);
 }
 
 // A line that cannot be read makes no call, and leaves what the others find.
 #[test]
-fn lines_that_are_not_read(rt: HostRuntime) -> Result<(), Fail> {
+fn lines_that_are_not_read(rt: HostRuntime) {
     answers(
         &rt,
         rt.alloc(),
         b"e 0\nw 0 4 0\nw 0 0 32 1\nw 0 0 -1\nw 0 1 1 -32768\nz 0\nr 0 1\nr 16 1\nr 0 4\n",
         b"e 0 0\nw 3\nw 4\n? 14 4\nw 0\n? 14 1\nr 0 1 -32768\nr 1\nr 3\n",
-    )
+    );
 }
 
 // The script of a save, over any keeper.

@@ -1,8 +1,10 @@
 -- A version put in the first free place, before the others of its entry.
-use Rattle.std.proofs.Common.{◌≡◌, ℕ, ◌+◌, ◌^◌, ◌<◌, ◌≤◌, ◌≢◌, ◌⊎◌, List, get_or, set, Some, None, vec_items, Option, sym, refl, ap, ◌∙◌, subst, ap₂, inl, inr, arith}
+use Rattle.std.proofs.Common.{◌≡◌, ℕ, ◌+◌, ◌^◌, ◌<◌, ◌≤◌, ◌≢◌, ◌⊎◌, List, length, get_or, set, Some, None, Option, sym, refl, ap, ◌∙◌, subst, ap₂, inl, inr, arith}
 use Rattle.std.proofs.Math.Seq.{take-set-lt}
 use Rattle.std.proofs.lemmas.List.{get_or-set_same, get_or-set_other, length-set}
 use Rattle.std.proofs.lemmas.Bool.{cases_eq}
+use Rattle.smallvec.specs.SmallVec.{with_items}
+use Rattle.smallvec.proofs.SmallVecLemmas.{items-with_items}
 use Rattle.cards.specs.Versions.{with_card, held_in}
 use Rattle.keepers.specs.Look.{holds}
 use Rattle.keepers.specs.Memory.{most_places}
@@ -170,7 +172,7 @@ module _ {ps : List Place} {hs : List (Option ℕ)} {f : Option ℕ} {n h : ℕ}
 -- ---- the same in a keeper's memory: P is written at the free place, row is the head that leads to it, w the newest time as it was
 -- read, and x the free place as it was read
 
-module _ (k : Linked) {w row at : ℕ} {P : Place} (p : ℕ) (v : Version) (e : EntryNumber) (same : e.number ≡ v.entry) (is : k.free.first ≡ Some p) (read : w ≡ time_or_zero (linked_used k) (get_or k.heads e.number None)) (late : w < v.time) (lt : v.time < 2 ^ 32) (row-is : row ≡ e.number) (at-is : at ≡ p) (P-is : P ≡ held_place (record { version = v; older = get_or k.heads row None })) where
+module _ (k : Linked) {w row at : ℕ} {P : Place} {ys : List Place} (p : ℕ) (v : Version) (e : EntryNumber) (same : e.number ≡ v.entry) (is : k.free.first ≡ Some p) (read : w ≡ time_or_zero (linked_used k) (get_or k.heads e.number None)) (late : w < v.time) (lt : v.time < 2 ^ 32) (row-is : row ≡ e.number) (at-is : at ≡ p) (P-is : P ≡ held_place (record { version = v; older = get_or k.heads row None })) (ys-is : ys ≡ k.places.items) where
   above_all : time_or_zero (linked_used k) (get_or k.heads v.entry None) < v.time
   above_all = subst (λ (u : ℕ). u < v.time) (newest k v e same is read) late
 
@@ -180,11 +182,18 @@ module _ (k : Linked) {w row at : ℕ} {P : Place} (p : ℕ) (v : Version) (e : 
   P-same : P ≡ placed
   P-same = P-is ∙ ap (λ (d : ℕ). held_place (record { version = v; older = get_or k.heads d None })) (row-is ∙ same)
 
-  written : used_places (set (vec_items k.places) at P) ≡ set (linked_used k) p placed
-  written = ap₂ (λ (a : ℕ) (x : Place). used_places (set (vec_items k.places) a x)) at-is P-same ∙ take-set-lt most_places (vec_items k.places) p placed (used_in k p (first_free k p is).0).1
+  -- the memory after
+  abbrev zs : List Place
+  zs = (with_items k.places (set ys at P)).items
 
-  pub placed_kept : kept_in (used_places (set (vec_items k.places) at P)) ≡ with_card (linked_kept k) v.entry v.time v.card
+  same_memory : zs ≡ set k.places.items at P
+  same_memory = items-with_items k.places (set ys at P) (length-set ys at P ∙ ap length ys-is) ∙ ap (λ (qs : List Place). set qs at P) ys-is
+
+  written : used_places zs ≡ set (linked_used k) p placed
+  written = ap used_places same_memory ∙ ap₂ (λ (a : ℕ) (x : Place). used_places (set k.places.items a x)) at-is P-same ∙ take-set-lt most_places k.places.items p placed (used_in k p (first_free k p is).0).1
+
+  pub placed_kept : kept_in (used_places zs) ≡ with_card (linked_kept k) v.entry v.time v.card
   placed_kept = ap kept_in written ∙ add_kept (sound_of k) p v is (entry_below k v e same) lt above_all
 
-  pub placed_sound : (x : Place) → x ≡ get_or (linked_used k) p empty_place → Sound (used_places (set (vec_items k.places) at P)) (set k.heads row (Some p)) (next_of x) (below_of x) (k.held + 1)
+  pub placed_sound : (x : Place) → x ≡ get_or (linked_used k) p empty_place → Sound (used_places zs) (set k.heads row (Some p)) (next_of x) (below_of x) (k.held + 1)
   placed_sound x place = rw (written, ap (λ (d : ℕ). set k.heads d (Some p)) (row-is ∙ same), place) (add_sound (sound_of k) p v is (entry_below k v e same) lt above_all)

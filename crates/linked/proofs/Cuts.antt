@@ -1,9 +1,10 @@
 -- A version taken out of its chain, and its place put before the free ones.
-use Rattle.std.proofs.Common.{◌≡◌, ℕ, ◌+◌, ◌-◌, ◌<◌, ◌≤◌, true, ◌≢◌, ◌⊎◌, List, length, get_or, set, is_some, Some, None, vec_items, vec_len, Option, sym, refl, ap, ◌∙◌, subst, ap₂, inl, inr, arith}
-use Rattle.std.proofs.lemmas.List.{get_or-set_same, get_or-set_other, get_or-take, length-set, with_items_is}
+use Rattle.std.proofs.Common.{◌≡◌, ℕ, ◌+◌, ◌-◌, ◌<◌, ◌≤◌, true, ◌≢◌, ◌⊎◌, List, length, get_or, set, is_some, Some, None, Option, sym, refl, ap, ◌∙◌, subst, ap₂, inl, inr, arith}
+use Rattle.std.proofs.lemmas.List.{get_or-set_same, get_or-set_other, get_or-take, length-set}
 use Rattle.std.proofs.Math.Seq.{take-set-lt}
 use Rattle.std.proofs.lemmas.Bool.{cases_eq}
-use Rattle.std.specs.Vec.{with_items}
+use Rattle.smallvec.specs.SmallVec.{with_items, small_vec_len}
+use Rattle.smallvec.proofs.SmallVecLemmas.{items-with_items}
 use Rattle.cards.specs.Versions.{without, held_in}
 use Rattle.linked.specs.Chain.{empty_place, free_place, version_of, next_of, below_of, led_place, used_places, kept_in, time_at, entry_at, next_at, below_at, OfEntry, Chained, Freed, Sound, After, led_places, led_heads}
 use Rattle.keepers.specs.Memory.{most_places}
@@ -248,8 +249,8 @@ module _ (k : Linked) {e t : ℕ} {b a : Option ℕ} (af : After (linked_used k)
   before_in q so = in_places (linked_used k) q (af.later q so).0.0
 
   -- the place before it holds a version
-  pub before_memory : {ys : List Place} → ys ≡ vec_items k.places → (q : ℕ) → b ≡ Some q → 0 < time_at ys q
-  before_memory is q so = rw is (omega (arith, ap (λ (x : Place). (version_of x).time) (get_or-take most_places (vec_items k.places) q empty_place (used_in k q (before_in q so)).1), (af.later q so).0.0))
+  pub before_memory : {ys : List Place} → ys ≡ k.places.items → (q : ℕ) → b ≡ Some q → 0 < time_at ys q
+  before_memory is q so = rw is (omega (arith, ap (λ (x : Place). (version_of x).time) (get_or-take most_places k.places.items q empty_place (used_in k q (before_in q so)).1), (af.later q so).0.0))
 
   module _ (p : ℕ) (is : a ≡ Some p) where
     of : OfEntry (linked_used k) e p
@@ -268,30 +269,35 @@ module _ (k : Linked) {e t : ℕ} {b a : Option ℕ} (af : After (linked_used k)
       pub out_found : is_some (linked_kept k e t) ≡ true
       out_found = subst (λ (u : ℕ). is_some (linked_kept k e u) ≡ true) time_is (ap is_some (kept_at (chain_of k) e p of))
 
-      -- in ws, what led to p leads on; in zs, the memory after, p is free too
-      module _ {ys ws : List Place} {gs : List (Option ℕ)} {P : Place} {r : ℕ} (le : e < 1024) (ys-is : ys ≡ vec_items k.places) (ws-is : ws ≡ led_places ys b (next_of x)) (gs-is : gs ≡ led_heads k.heads e b (next_of x)) (len : length ws ≡ vec_len k.places) (r-is : r ≡ p) (P-is : P ≡ free_place k.free.first k.free.count) where
+      -- in ws, what led to p leads on; in the memory after, p is free too
+      module _ {ys ws : List Place} {gs : List (Option ℕ)} {P : Place} {r : ℕ} (le : e < 1024) (ys-is : ys ≡ k.places.items) (ws-is : ws ≡ led_places ys b (next_of x)) (gs-is : gs ≡ led_heads k.heads e b (next_of x)) (len : length ws ≡ small_vec_len k.places) (r-is : r ≡ p) (P-is : P ≡ free_place k.free.first k.free.count) where
+        -- the memory after
         abbrev zs : List Place
-        zs = vec_items (with_items k.places ws)
+        zs = (with_items k.places (set ws r P)).items
 
-        led_are : used_places zs ≡ led_places (linked_used k) b (next_at (linked_used k) p)
+        written : zs ≡ set ws r P
+        written = items-with_items k.places (set ws r P) (length-set ws r P ∙ len)
+
+        led_are : used_places ws ≡ led_places (linked_used k) b (next_at (linked_used k) p)
         led_are =
-            ap used_places (with_items_is k.places ws len ∙ ws-is ∙ ap (λ (qs : List Place). led_places qs b (next_of x)) ys-is)
-            ∙ used_led (vec_items k.places) b (next_of x) (λ q so. (used_in k q (before_in q so)).1)
+            ap used_places (ws-is ∙ ap (λ (qs : List Place). led_places qs b (next_of x)) ys-is)
+            ∙ used_led k.places.items b (next_of x) (λ q so. (used_in k q (before_in q so)).1)
             ∙ ap (λ (y : Place). led_places (linked_used k) b (next_of y)) read
 
-        places_are : used_places (set zs r P) ≡ set (led_places (linked_used k) b (next_at (linked_used k) p)) p (free_place k.free.first k.free.count)
+        places_are : used_places zs ≡ set (led_places (linked_used k) b (next_at (linked_used k) p)) p (free_place k.free.first k.free.count)
         places_are =
-            ap (λ (q : ℕ). used_places (set zs q P)) r-is
-            ∙ take-set-lt most_places zs p P (used_in k p in_used).1
+            ap used_places written
+            ∙ ap (λ (q : ℕ). used_places (set ws q P)) r-is
+            ∙ take-set-lt most_places ws p P (used_in k p in_used).1
             ∙ ap₂ (λ (qs : List Place) (y : Place). set qs p y) led_are P-is
 
-        cut : Cut (linked_used k) (used_places (set zs r P)) k.heads gs p k.free.first k.free.count
+        cut : Cut (linked_used k) (used_places zs) k.heads gs p k.free.first k.free.count
         cut =
             subst (λ (ps : List Place). Cut (linked_used k) ps k.heads gs p k.free.first k.free.count) (sym places_are)
             (rw (gs-is, read) (cut_out (chain_of k) p k.free.first k.free.count b (subst (After (linked_used k) k.heads e t b) is af) le))
 
-        pub out_kept : kept_in (used_places (set zs r P)) ≡ without (linked_kept k) e t
+        pub out_kept : kept_in (used_places zs) ≡ without (linked_kept k) e t
         out_kept = cut_kept (sound_of k) of.0 cut ∙ ap₂ (λ (d u : ℕ). without (linked_kept k) d u) of.1 time_is
 
-        pub out_sound : Sound (used_places (set zs r P)) gs (Some p) (k.free.count + 1) (k.held - 1)
+        pub out_sound : Sound (used_places zs) gs (Some p) (k.free.count + 1) (k.held - 1)
         out_sound = cut_sound (sound_of k) of.0 cut (k.held - 1) (omega (arith, some_held))

@@ -1,9 +1,9 @@
 -- Memory made free: each place leads to the one before it, and no entry has a version.
-use Rattle.std.proofs.Common.{◌≡◌, ℕ, zero, suc, ◌+◌, ◌-◌, ◌<◌, List, length, get_or, drop, Some, None, vec_items, vec_len, Option, Vec, sym, refl, ap, ◌∙◌, subst, inl, inr, arith}
-use Rattle.std.proofs.lemmas.List.{get_or_past, get_or-take, length-take, drop-drop, with_items_is}
+use Rattle.std.proofs.Common.{◌≡◌, ℕ, zero, suc, ◌+◌, ◌-◌, ◌<◌, List, length, get_or, drop, Some, None, Option, sym, refl, ap, ◌∙◌, subst, inl, inr, arith}
+use Rattle.std.proofs.lemmas.List.{get_or_past, get_or-take, length-take, drop-drop}
 use Rattle.std.proofs.lemmas.Bool.{cases_lt}
-use Rattle.std.specs.Vec.{with_items}
-use Rattle.std.specs.declared.alloc.Global.{Global}
+use Rattle.smallvec.specs.SmallVec.{with_items, small_vec_len, SmallVec}
+use Rattle.smallvec.proofs.SmallVecLemmas.{items-with_items}
 use Rattle.cards.specs.Versions.{Empty}
 use Rattle.keepers.specs.Memory.{most_places, used_of}
 use Rattle.linked.specs.Chain.{empty_place, version_of, next_of, below_of, used_places, kept_in, time_at, next_at, below_at, OfEntry, Sound, before, AllFree}
@@ -63,9 +63,9 @@ module _ (ps : List Place) (all : AllFree ps (length ps)) where
 
 -- ---- the whole of a making: the memory m, of which the first n places were made free in ws
 
-module _ (m : Vec Place Global) (ws : List Place) (n : ℕ) (len : length ws ≡ vec_len m) (few : n ≡ used_of (vec_len m)) (all : AllFree ws n) where
-  fill : vec_items (with_items m ws) ≡ ws
-  fill = with_items_is m ws len
+module _ (m : SmallVec Place) (ws : List Place) (n : ℕ) (len : length ws ≡ small_vec_len m) (few : n ≡ used_of (small_vec_len m)) (all : AllFree ws n) where
+  fill : (with_items m ws).items ≡ ws
+  fill = items-with_items m ws len
 
   used_len : n ≡ length (used_places ws)
   used_len = few ∙ ap used_of (sym len) ∙ sym (length-take most_places ws)
@@ -73,14 +73,14 @@ module _ (m : Vec Place Global) (ws : List Place) (n : ℕ) (len : length ws ≡
   used_free : AllFree (used_places ws) (length (used_places ws))
   used_free k l = get_or-take most_places ws k empty_place (omega (arith, used_len)) ∙ all k (omega (arith, used_len))
 
-  pub made_empty : Empty (kept_in (used_places (vec_items (with_items m ws))))
+  pub made_empty : Empty (kept_in (used_places (with_items m ws).items))
   made_empty = rw fill (none_new (used_places ws) used_free)
 
-  pub made_sound : {hs : List (Option ℕ)} {f : Option ℕ} {k : ℕ} → length hs ≡ 1024 → ((e : ℕ) → get_or hs e None ≡ None) → f ≡ before n → k ≡ n → Sound (used_places (vec_items (with_items m ws))) hs f k 0
+  pub made_sound : {hs : List (Option ℕ)} {f : Option ℕ} {k : ℕ} → length hs ≡ 1024 → ((e : ℕ) → get_or hs e None ≡ None) → f ≡ before n → k ≡ n → Sound (used_places (with_items m ws).items) hs f k 0
   made_sound {hs} heads bare first count = rw (fill, first, count) (new_sound (used_places ws) used_free hs n heads bare used_len)
 
   -- places past the used ones are as they were
-  pub made_rest : {ys : List Place} → ys ≡ vec_items m → drop n ws ≡ drop n ys → drop most_places (vec_items (with_items m ws)) ≡ drop most_places (vec_items m)
+  pub made_rest : {ys : List Place} → ys ≡ m.items → drop n ws ≡ drop n ys → drop most_places (with_items m ws).items ≡ drop most_places m.items
   made_rest {ys} is rest =
       let e : n + (most_places - n) ≡ most_places = omega arith in
       ap (drop most_places) fill

@@ -1,6 +1,6 @@
 -- That a linked keeper keeps the laws of a keeper. Nothing here is to be believed: these are the proofs that the impl of the trait
 -- names, and what they rest on. That places are sound is a proposition, so that a keeper has it of itself.
-use Rattle.std.specs.Prelude.{◌≡◌, ℕ, ◌+◌, ◌^◌, ◌≤◌, List, None, Option, vec_items, ◌≢◌}
+use Rattle.std.specs.Prelude.{◌≡◌, ℕ, ◌+◌, ◌^◌, ◌≤◌, List, None, Option, ◌≢◌}
 use Rattle.std.proofs.Common.{arith}
 use Rattle.std.proofs.lemmas.List.{length-take}
 use mathlib.Core.HLevel.{Π_prop, ×_prop, ×₃_prop, ⊥_prop}
@@ -68,7 +68,7 @@ module _ (s : Linked) where
 
   -- every used place has a version or is spare
   pub all_places : held_in (linked_kept s) + s.free.count ≡ linked_places s
-  all_places = omega (arith, sound_of.counted, sound_of.total, length-take most_places (vec_items s.places))
+  all_places = omega (arith, sound_of.counted, sound_of.total, length-take most_places s.places.items)
 
 -- ---- the laws
 

@@ -43,7 +43,8 @@ impl Keeper for Linked {
             version,
             older: self.heads[row],
         };
-        self.places[usize::from(p)] = Place::held(link);
+        let places = self.places.as_mut_slice();
+        places[usize::from(p)] = Place::held(link);
         self.heads[row] = Some(p);
         self.free = others;
         self.held += 1;
@@ -75,15 +76,10 @@ impl Keeper for Linked {
         if link.version.time != time {
             return false;
         }
-        unlink(
-            self.places.as_mut_slice(),
-            &mut self.heads,
-            entry,
-            reached.before,
-            link.older,
-        );
+        let places = self.places.as_mut_slice();
+        unlink(places, &mut self.heads, entry, reached.before, link.older);
         // The step of `free_first`: a method for both would have to ask in a clause that one more fits.
-        self.places[usize::from(p)] = Place::freed(self.free);
+        places[usize::from(p)] = Place::freed(self.free);
         self.free = FreePlaces {
             first: Some(p),
             count: self.free.count + 1,

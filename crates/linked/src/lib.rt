@@ -8,5 +8,5 @@ pub mod place;
 mod reading;
 mod walks;
 
-pub use crate::keeper::Linked;
+pub use crate::keeper::{Linked, Memory, SMALL};
 pub use crate::place::Place;

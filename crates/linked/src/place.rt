@@ -57,3 +57,10 @@ impl Place {
         }
     }
 }
+
+// What lies in a keeper itself is blank where it is not used.
+impl Default for Place {
+    fn default() -> Place {
+        Place::empty()
+    }
+}

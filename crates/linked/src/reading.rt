@@ -12,7 +12,8 @@ impl Linked {
         requires { p < length (linked_used self.now) }
         ensures { result ≡ slice_index_or (linked_used self.now) p empty_place }
     {
-        self.places[usize::from(p)]
+        let places = self.places.as_slice();
+        places[usize::from(p)]
     }
 
     // The link in a place that holds a version.

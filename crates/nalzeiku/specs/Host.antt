@@ -23,11 +23,7 @@ suits script = nat_le (length script) 4096
 abbrev pub host_answer : List ℕ → ℕ → ℤ
 host_answer script n = cond (suits script) (signed (scratch_result script n)) (signed (Err why.Sizes))
 
--- what is answered where no memory can be had for the store: a number that no refusal has
-abbrev pub no_memory : ℤ
-no_memory = negsuc 18
-
--- a refusal, or no memory
+-- a refusal
 abbrev pub is_refused : ℤ → Bool
 is_refused (pos n) = false
 is_refused (negsuc n) = true

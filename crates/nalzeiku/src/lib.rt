@@ -1,10 +1,10 @@
 // The store for a host that is written in C: a static library with one function, which `host/nalzeiku.h` declares.
 #![tactic(auto)]
 
-ghost use Rattle.std.specs.Prelude.{◌≡◌, ◌⊎◌, false, length, true};
+ghost use Rattle.std.specs.Prelude.{◌≡◌, false, length};
 ghost use Rattle.cards.specs.Refusals.{number_of};
 ghost use Rattle.scratch.specs.Scratch.{ScratchLaw};
-ghost use Rattle.nalzeiku.specs.Host.{host_answer, no_memory, is_refused, host_memory, minus};
+ghost use Rattle.nalzeiku.specs.Host.{host_answer, is_refused, host_memory, minus};
 
 use cards::refusal::Refusal;
 use scratch::run_on_scratch;
@@ -12,9 +12,6 @@ use std::alloc::Global;
 
 // The most bytes of a script.
 const MOST_SCRIPT: usize = 4096;
-
-// What is answered where no memory can be had for the store; no refusal has 19.
-const NO_MEMORY: i64 = -19;
 
 // A refusal, for a host.
 fn refused(why: Refusal) -> i64
@@ -24,12 +21,11 @@ fn refused(why: Refusal) -> i64
 }
 
 // Runs a script on a new store, and writes the answers to its lines to the front of memory. Answers how many bytes were
-// written; or -13 for a script of more than 4,096 bytes, or -16 where the memory has not 64 bytes for each line, or -19.
+// written; or -13 for a script of more than 4,096 bytes, or -16 where the memory has not 64 bytes for each line.
 #[tactic(auto, using(scratch::proofs::Founded::scratch_law))]
 #[unsafe(no_mangle)]
 pub extern "C" fn nalzeiku_run(alloc: Global, script: &[u8], memory: &mut [u8]) -> i64
-    ensures answer { (result ≡ no_memory) ⊎ (result ≡ host_answer script.now (length memory.old)) }
-    ensures declined { is_refused (host_answer script.now (length memory.old)) ≡ true → result ≡ host_answer script.now (length memory.old) }
+    ensures answer { result ≡ host_answer script.now (length memory.old) }
     ensures memory { memory.new ≡ host_memory script.now memory.old result }
     ensures law { is_refused result ≡ false → ScratchLaw script.now (length memory.old) }
 {
@@ -37,8 +33,7 @@ pub extern "C" fn nalzeiku_run(alloc: Global, script: &[u8], memory: &mut [u8]) 
         return refused(Refusal::Sizes);
     }
     match run_on_scratch(alloc, script, memory) {
-        Ok(Ok(len)) => len as i64,
-        Ok(Err(why)) => refused(why),
-        Err(_) => NO_MEMORY,
+        Ok(len) => len as i64,
+        Err(why) => refused(why),
     }
 }

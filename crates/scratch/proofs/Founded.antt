@@ -3,11 +3,11 @@ use Rattle.std.proofs.Common.{◌≡◌, ℕ, List, [], ◌∙◌, refl, arith}
 use Rattle.cards.specs.Versions.{Kept, Empty}
 use Rattle.cards.proofs.Counts.{held_none}
 use Rattle.rules.specs.Places.{opened}
-use Rattle.rules.specs.Runs.{events, play, Reached, new}
+use Rattle.rules.specs.Runs.{Reached, new}
 use Rattle.rules.proofs.Law.{law_holds_lem}
 use Rattle.rules.proofs.Places.{new_stores_stand_lem}
 use Rattle.rules.proofs.Runs.{play_reached}
-use Rattle.scripts.specs.Scripts.{script_calls, script_answers}
+use Rattle.scripts.specs.Scripts.{script_calls}
 use Rattle.store.specs.View.{new_store}
 use Rattle.store.proofs.Founding.{new_over_none}
 use Rattle.scratch.specs.Scratch.{scratch, ScratchLaw}

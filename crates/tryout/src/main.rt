@@ -12,7 +12,7 @@ const MOST_SCRIPT: u64 = 65_536;
 // Runs a script, and writes the answers.
 fn answer(rt: &HostRuntime, script: &[u8]) -> anyhow::Result<()> {
     let mut memory = vec![in rt.alloc(); 0u8; room_for(script)]?;
-    match run_on_scratch(rt.alloc(), script, &mut memory)? {
+    match run_on_scratch(rt.alloc(), script, &mut memory) {
         Ok(len) => Ok(rt.write_all(&memory[..len])?),
         Err(why) => bail!("declined by {}, {why}", why.number()),
     }

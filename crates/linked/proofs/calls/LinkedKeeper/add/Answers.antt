@@ -1,5 +1,5 @@
 -- A version is declined for the first reason that holds, or is put in the first free place.
-use Rattle.std.proofs.Common.{refl, arith, rules}
+use Rattle.std.proofs.Common.{length, refl, ap, arith, rules}
 use Rattle.linked.proofs.Edits.{used_in}
 use Rattle.linked.proofs.Adds.{placed_kept, placed_sound}
 use Rattle.linked.proofs.Facts.{few_places, first_free, full, late, taken}
@@ -18,14 +18,14 @@ returns-then-version-head_time c =
 pub others_at-others-requires : goal.others_at-others-requires
 others_at-others-requires c = first_free c.args.self.now _ c.in_ok-p.ensures.ok_part
 
-pub index_mut-requires : goal.index_mut-requires
-index_mut-requires c = omega (arith, (used_in c.args.self.now _ (first_free c.args.self.now _ c.in_ok-p.ensures.ok_part).0).0)
+pub bounds-places-from : goal.bounds-places-from
+bounds-places-from c = omega (arith, ap length c.as_mut_slice-places.ensures.value, (used_in c.args.self.now _ (first_free c.args.self.now _ c.in_ok-p.ensures.ok_part).0).0)
 
 pub overflow_add-self : goal.overflow_add-self
 overflow_add-self c = omega (arith, few_places c.args.self.now)
 
 pub invariant_of-self : goal.invariant_of-self
-invariant_of-self c = record { sound = ∣ placed_sound c.args.self.now c.in_ok-p.p c.args.version c.in_ok-entry.entry c.in_ok-entry.ensures c.in_ok-p.ensures.ok_part c.head_time.ensures (omega arith) (search rules) c.from-row.ensures c.from.ensures c.held.ensures _ c.others_at-others.ensures ∣₁ }
+invariant_of-self c = record { sound = ∣ placed_sound c.args.self.now c.in_ok-p.p c.args.version c.in_ok-entry.entry c.in_ok-entry.ensures c.in_ok-p.ensures.ok_part c.head_time.ensures (omega arith) (search rules) c.from-row.ensures c.from.ensures c.held.ensures c.as_mut_slice-places.ensures.value _ c.others_at-others.ensures ∣₁ }
 
 pub returns-clause-answer : goal.returns-clause-answer
 returns-clause-answer c = let e = taken c.args.self.now c.args.version c.in_ok-entry.entry c.in_ok-entry.ensures c.in_ok-p.ensures.ok_part c.head_time.ensures (omega arith) in rw e
@@ -33,4 +33,4 @@ returns-clause-answer c = let e = taken c.args.self.now c.args.version c.in_ok-e
 pub returns-clause-kept : goal.returns-clause-kept
 returns-clause-kept c =
     let e = taken c.args.self.now c.args.version c.in_ok-entry.entry c.in_ok-entry.ensures c.in_ok-p.ensures.ok_part c.head_time.ensures (omega arith) in
-    rw e (placed_kept c.args.self.now c.in_ok-p.p c.args.version c.in_ok-entry.entry c.in_ok-entry.ensures c.in_ok-p.ensures.ok_part c.head_time.ensures (omega arith) (search rules) c.from-row.ensures c.from.ensures c.held.ensures)
+    rw e (placed_kept c.args.self.now c.in_ok-p.p c.args.version c.in_ok-entry.entry c.in_ok-entry.ensures c.in_ok-p.ensures.ok_part c.head_time.ensures (omega arith) (search rules) c.from-row.ensures c.from.ensures c.held.ensures c.as_mut_slice-places.ensures.value)

@@ -1,5 +1,5 @@
 -- The walk ends at the version, which is cut out of its chain, or it is not there.
-use Rattle.std.proofs.Common.{is_some, sym, refl, ap, arith, rules}
+use Rattle.std.proofs.Common.{length, is_some, sym, refl, ap, arith, rules}
 use Rattle.linked.specs.Chain.{version_of}
 use Rattle.linked.specs.declared.place.Place.{Place}
 use Rattle.cards.proofs.Counts.{without_none}
@@ -30,10 +30,10 @@ returns-then-link-time c =
     record { answer = sym (ap is_some z); kept = without_none _ _ _ z; places = refl; same = λ _. refl }
 
 pub unlink-requires : goal.unlink-requires
-unlink-requires c = before_memory c.args.self.now c.walk-reached.ensures.after c.as_mut_slice.ensures.value
+unlink-requires c = before_memory c.args.self.now c.walk-reached.ensures.after c.as_mut_slice-places.ensures.value
 
-pub index_mut-requires : goal.index_mut-requires
-index_mut-requires c = omega (arith, (used_in c.args.self.now _ (in_used c.args.self.now c.walk-reached.ensures.after _ c.in-Some.is)).0)
+pub bounds-places-from : goal.bounds-places-from
+bounds-places-from c = omega (arith, ap length c.as_mut_slice-places.ensures.value, (used_in c.args.self.now _ (in_used c.args.self.now c.walk-reached.ensures.after _ c.in-Some.is)).0)
 
 pub overflow_add-self : goal.overflow_add-self
 overflow_add-self c = omega (arith, few_places c.args.self.now)
@@ -42,10 +42,10 @@ pub overflow_sub-self : goal.overflow_sub-self
 overflow_sub-self c = some_held c.args.self.now c.walk-reached.ensures.after _ c.in-Some.is
 
 pub invariant_of-self : goal.invariant_of-self
-invariant_of-self c = record { sound = ∣ out_sound c.args.self.now c.walk-reached.ensures.after c.in-Some.p c.in-Some.is c.link_at-link.ensures c.if-link-time.false c.in-Ok.entry.below c.as_mut_slice.ensures.value c.unlink.ensures.places c.unlink.ensures.heads (search rules) c.from.ensures c.freed.ensures ∣₁ }
+invariant_of-self c = record { sound = ∣ out_sound c.args.self.now c.walk-reached.ensures.after c.in-Some.p c.in-Some.is c.link_at-link.ensures c.if-link-time.false c.in-Ok.entry.below c.as_mut_slice-places.ensures.value c.unlink.ensures.places c.unlink.ensures.heads (search rules) c.from.ensures c.freed.ensures ∣₁ }
 
 pub returns-clause-answer : goal.returns-clause-answer
 returns-clause-answer c = rw (← c.in-Ok.ensures) (sym (out_found c.args.self.now c.walk-reached.ensures.after c.in-Some.p c.in-Some.is c.link_at-link.ensures c.if-link-time.false))
 
 pub returns-clause-kept : goal.returns-clause-kept
-returns-clause-kept c = rw (← c.in-Ok.ensures) (out_kept c.args.self.now c.walk-reached.ensures.after c.in-Some.p c.in-Some.is c.link_at-link.ensures c.if-link-time.false c.in-Ok.entry.below c.as_mut_slice.ensures.value c.unlink.ensures.places c.unlink.ensures.heads (search rules) c.from.ensures c.freed.ensures)
+returns-clause-kept c = rw (← c.in-Ok.ensures) (out_kept c.args.self.now c.walk-reached.ensures.after c.in-Some.p c.in-Some.is c.link_at-link.ensures c.if-link-time.false c.in-Ok.entry.below c.as_mut_slice-places.ensures.value c.unlink.ensures.places c.unlink.ensures.heads (search rules) c.from.ensures c.freed.ensures)

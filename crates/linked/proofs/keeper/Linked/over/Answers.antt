@@ -1,7 +1,7 @@
 -- Memory whose used places were made free holds nothing.
 use Rattle.std.proofs.Common.{arith, rules}
 use Rattle.linked.proofs.News.{made_empty, made_sound, made_rest}
-use Rattle.linked.proofs.keeper.Linked.new.Goals as goal
+use Rattle.linked.proofs.keeper.Linked.over.Goals as goal
 
 pub invariant_of-result : goal.invariant_of-result
 invariant_of-result c =
