@@ -1,6 +1,6 @@
 // The next call of a phase. Mostly one that the seat's stage serves, so that histories go on; sometimes any.
 use crate::dice::Dice;
-use crate::plain::Plain;
+use crate::plain::{Plain, SEATS};
 use crate::shape::Shape;
 use cards::card::Card;
 use rules::call::Call;
@@ -91,7 +91,7 @@ fn of_edit(dice: &mut Dice, shape: &Shape, plain: &Plain, seat: u16) -> Call {
     if dice.chance(shape.locks) {
         return Call::Lock { seat };
     }
-    if dice.chance(10) {
+    if dice.chance(shape.drops) {
         return Call::Drop { seat };
     }
     if dice.chance(shape.reads) {
@@ -100,12 +100,32 @@ fn of_edit(dice: &mut Dice, shape: &Shape, plain: &Plain, seat: u16) -> Call {
     write(dice, plain, seat)
 }
 
+// The seat whose time the ready point waits for: the least that is not put.
+fn slowest(plain: &Plain) -> Option<u16> {
+    let ready = plain.ready();
+    for seat in 0..SEATS {
+        if let Stage::Stamped { time, .. } = plain.stage(seat) {
+            if time.saturating_sub(1) == ready && left_of(plain, seat) > 0 {
+                return Some(seat);
+            }
+        }
+    }
+    None
+}
+
+fn left_of(plain: &Plain, seat: u16) -> usize {
+    plain.seat(seat).map_or(0, |of| of.unput())
+}
+
+// Where all is put, another seat may step in before the settle.
 fn of_stamped(dice: &mut Dice, plain: &Plain, seat: u16) -> Call {
-    let left = plain.seat(seat).map_or(0, |of| of.unput());
-    if left > 0 && !dice.chance(50) {
+    if left_of(plain, seat) > 0 && !dice.chance(50) {
         return Call::Put { seat };
     }
-    Call::Settle { seat }
+    match slowest(plain) {
+        Some(other) if !dice.chance(200) => Call::Put { seat: other },
+        _ => Call::Settle { seat },
+    }
 }
 
 // A call that the seat's stage serves.

@@ -17,6 +17,7 @@ mod served;
 mod shape;
 mod sitting;
 mod tally;
+mod worked;
 
 use anyhow::{Context, Result};
 use linked::Linked;
@@ -26,6 +27,7 @@ use roll::Roll;
 use shape::{CLOCK, SHAPES};
 use std::env;
 use tally::Tally;
+use worked::{try_cases, try_script};
 
 // The seed, and how many calls each phase throws.
 #[derive(Clone, Copy)]
@@ -34,11 +36,9 @@ struct Length {
     calls: u32,
 }
 
-// Every phase over one keeper.
-fn try_keeper<K: Made>(rt: &HostRuntime, length: Length) -> Result<()> {
+// The phases that throw calls from the beginning.
+fn try_shapes<K: Made>(rt: &HostRuntime, length: Length, all: &mut Tally) -> Result<()> {
     let name = K::name();
-    let mut all = Tally::new(rt.alloc())?;
-    println!(rt; "The {name} keeper")?;
     for (place, shape) in SHAPES.iter().enumerate() {
         let title = shape.name;
         let seed = length.seed.wrapping_add(place as u64);
@@ -49,14 +49,35 @@ fn try_keeper<K: Made>(rt: &HostRuntime, length: Length) -> Result<()> {
         tally.print_short(rt)?;
         all.add(&tally);
     }
+    println!(rt; "These phases together:")?;
+    all.print(rt)?;
+    Ok(())
+}
+
+// The phase that begins with the clock near its end.
+fn try_clock<K: Made>(rt: &HostRuntime, length: Length, all: &mut Tally) -> Result<()> {
+    let name = K::name();
     let title = CLOCK.name;
     let tally = clock_phase::<K>(rt.alloc(), &CLOCK, length.seed, length.calls).context(
         format_args!("{name}, {title}"),
     )?;
     print!(rt; "{title}: ")?;
     tally.print_short(rt)?;
-    all.print(rt)?;
+    all.add(&tally);
     tally.print(rt)?;
+    Ok(())
+}
+
+// Everything over one keeper.
+fn try_keeper<K: Made>(rt: &HostRuntime, length: Length) -> Result<()> {
+    let name = K::name();
+    println!(rt; "The {name} keeper")?;
+    try_cases::<K>(rt)?;
+    let mut all = Tally::new(rt.alloc())?;
+    try_shapes::<K>(rt, length, &mut all)?;
+    try_clock::<K>(rt, length, &mut all)?;
+    print!(rt; "all: ")?;
+    all.print_short(rt)?;
     Ok(())
 }
 
@@ -64,7 +85,7 @@ fn try_keeper<K: Made>(rt: &HostRuntime, length: Length) -> Result<()> {
 fn asked_length(rt: &HostRuntime) -> Result<Length> {
     let mut length = Length {
         seed: 1,
-        calls: 20_000,
+        calls: 40_000,
     };
     for (place, word) in env::args(rt)?.enumerate() {
         if place == 1 {
@@ -79,6 +100,7 @@ fn asked_length(rt: &HostRuntime) -> Result<Length> {
 
 fn main(rt: HostRuntime) -> Result<()> {
     let length = asked_length(&rt)?;
+    try_script(&rt)?;
     try_keeper::<Linked>(&rt, length)?;
     try_keeper::<Roll>(&rt, length)
 }
