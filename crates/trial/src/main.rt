@@ -19,12 +19,11 @@ mod sitting;
 mod tally;
 mod worked;
 
-use anyhow::{Context, Result};
+use anyhow::{Context, Result, ensure};
 use linked::Linked;
-use made::Made;
-use phase::{clock_phase, phase};
+use phase::phase;
 use roll::Roll;
-use shape::{CLOCK, SHAPES};
+use shape::{SHAPES, Shape};
 use std::env;
 use tally::Tally;
 use worked::{try_cases, try_script};
@@ -36,47 +35,31 @@ struct Length {
     calls: u32,
 }
 
-// The phases that throw calls from the beginning.
-fn try_shapes<K: Made>(rt: &HostRuntime, length: Length, all: &mut Tally) -> Result<()> {
-    let name = K::name();
-    for (place, shape) in SHAPES.iter().enumerate() {
-        let title = shape.name;
-        let seed = length.seed.wrapping_add(place as u64);
-        let tally = phase::<K>(rt.alloc(), shape, seed, length.calls).context(format_args!(
-            "{name}, {title}"
-        ))?;
-        print!(rt; "{title}: ")?;
-        tally.print_short(rt)?;
-        all.add(&tally);
-    }
-    println!(rt; "These phases together:")?;
-    all.print(rt)?;
-    Ok(())
-}
-
-// The phase that begins with the clock near its end.
-fn try_clock<K: Made>(rt: &HostRuntime, length: Length, all: &mut Tally) -> Result<()> {
-    let name = K::name();
-    let title = CLOCK.name;
-    let tally = clock_phase::<K>(rt.alloc(), &CLOCK, length.seed, length.calls).context(
-        format_args!("{name}, {title}"),
-    )?;
-    print!(rt; "{title}: ")?;
-    tally.print_short(rt)?;
-    all.add(&tally);
+// One phase over both keepers. They are told the same calls, so the table is one.
+fn try_phase(rt: &HostRuntime, shape: &Shape, seed: u64, calls: u32) -> Result<Tally> {
+    let title = shape.name;
+    let mut tally = phase::<Linked>(rt.alloc(), shape, seed, calls).context(format_args!(
+        "{title}, over the linked keeper"
+    ))?;
+    let other = phase::<Roll>(rt.alloc(), shape, seed, calls).context(format_args!(
+        "{title}, over the roll keeper"
+    ))?;
+    ensure!(tally.is_same(&other), "{title}: the keepers' tables differ");
+    let each = tally.calls;
+    println!(rt; "{title}: {each} calls over the linked keeper, {each} over the roll keeper")?;
     tally.print(rt)?;
-    Ok(())
+    tally.add(&other);
+    Ok(tally)
 }
 
-// Everything over one keeper.
-fn try_keeper<K: Made>(rt: &HostRuntime, length: Length) -> Result<()> {
-    let name = K::name();
-    println!(rt; "The {name} keeper")?;
-    try_cases::<K>(rt)?;
+// All phases.
+fn try_phases(rt: &HostRuntime, length: Length) -> Result<()> {
     let mut all = Tally::new(rt.alloc())?;
-    try_shapes::<K>(rt, length, &mut all)?;
-    try_clock::<K>(rt, length, &mut all)?;
-    print!(rt; "all: ")?;
+    for (place, shape) in SHAPES.iter().enumerate() {
+        let seed = length.seed.wrapping_add(place as u64);
+        all.add(&try_phase(rt, shape, seed, length.calls)?);
+    }
+    print!(rt; "all phases over both keepers: ")?;
     all.print_short(rt)?;
     Ok(())
 }
@@ -101,6 +84,7 @@ fn asked_length(rt: &HostRuntime) -> Result<Length> {
 fn main(rt: HostRuntime) -> Result<()> {
     let length = asked_length(&rt)?;
     try_script(&rt)?;
-    try_keeper::<Linked>(&rt, length)?;
-    try_keeper::<Roll>(&rt, length)
+    try_cases::<Linked>(&rt)?;
+    try_cases::<Roll>(&rt)?;
+    try_phases(&rt, length)
 }

@@ -3,7 +3,6 @@ use crate::choice::next_call;
 use crate::dice::Dice;
 use crate::made::Made;
 use crate::plain::SEATS;
-use crate::refused::LAST_TIME;
 use crate::run::Run;
 use crate::shape::Shape;
 use crate::tally::Tally;
@@ -66,20 +65,9 @@ fn thrown<K: Made>(run: &mut Run<K>, dice: &mut Dice, shape: &Shape, calls: u32)
     Ok(())
 }
 
-// So many calls of the shape, and the end.
-pub fn phase<K: Made>(alloc: Global, shape: &Shape, seed: u64, calls: u32) -> Result<Tally> {
-    let mut run: Run<K> = Run::new(alloc, shape.sizes, shape.places)?;
-    let mut dice = Dice::new(seed);
-    thrown(&mut run, &mut dice, shape, calls)?;
-    close(&mut run)?;
-    Ok(run.tally)
-}
-
-// A store whose clock is brought near its end by edits without drafts, then calls of the shape.
-pub fn clock_phase<K: Made>(alloc: Global, shape: &Shape, seed: u64, calls: u32) -> Result<Tally> {
-    let mut run: Run<K> = Run::new(alloc, shape.sizes, shape.places)?;
-    let mut dice = Dice::new(seed);
-    for time in 0..LAST_TIME - 40 {
+// Gives so many times, by edits without drafts.
+fn pass_times<K: Made>(run: &mut Run<K>, times: u32) -> Result<()> {
+    for time in 0..times {
         let seat = (time % 16) as u16;
         let calls = [
             Call::Edit { seat },
@@ -92,6 +80,14 @@ pub fn clock_phase<K: Made>(alloc: Global, shape: &Shape, seed: u64, calls: u32)
             run.compare_whole()?;
         }
     }
+    Ok(())
+}
+
+// The times that the shape begins with, so many calls of it, and the end.
+pub fn phase<K: Made>(alloc: Global, shape: &Shape, seed: u64, calls: u32) -> Result<Tally> {
+    let mut run: Run<K> = Run::new(alloc, shape.sizes, shape.places)?;
+    let mut dice = Dice::new(seed);
+    pass_times(&mut run, shape.times)?;
     thrown(&mut run, &mut dice, shape, calls)?;
     close(&mut run)?;
     Ok(run.tally)

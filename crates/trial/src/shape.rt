@@ -7,6 +7,8 @@ pub struct Shape {
     // Letters, marks and pairs.
     pub sizes: [u16; 3],
     pub places: usize,
+    // How many times are given before the first thrown call.
+    pub times: u32,
     // How many seats take part.
     pub seats: u16,
     // How often the next call is a collect.
@@ -21,12 +23,13 @@ pub struct Shape {
     pub reads: u16,
 }
 
-// The phases, each with something that the others do not bring about.
-pub const SHAPES: [Shape; 7] = [
+// The phases, each with something that the others do not bring about. The last begins near the clock's end.
+pub const SHAPES: [Shape; 8] = [
     Shape {
         name: "one entry",
         sizes: [1, 0, 0],
         places: 12,
+        times: 0,
         seats: 16,
         collects: 60,
         proofs: 200,
@@ -39,11 +42,12 @@ pub const SHAPES: [Shape; 7] = [
         name: "six entries, ten places",
         sizes: [2, 2, 2],
         places: 10,
+        times: 0,
         seats: 16,
         collects: 120,
         proofs: 200,
         ends: 300,
-        locks: 300,
+        locks: 400,
         drops: 100,
         reads: 150,
     },
@@ -51,18 +55,20 @@ pub const SHAPES: [Shape; 7] = [
         name: "eight entries, long histories",
         sizes: [3, 3, 2],
         places: 4096,
+        times: 0,
         seats: 4,
         collects: 4,
         proofs: 120,
         ends: 300,
-        locks: 400,
-        drops: 60,
+        locks: 500,
+        drops: 100,
         reads: 120,
     },
     Shape {
         name: "wide edits",
         sizes: [30, 20, 30],
         places: 600,
+        times: 0,
         seats: 3,
         collects: 60,
         proofs: 60,
@@ -75,6 +81,7 @@ pub const SHAPES: [Shape; 7] = [
         name: "1024 entries",
         sizes: [400, 300, 324],
         places: 2000,
+        times: 0,
         seats: 16,
         collects: 40,
         proofs: 100,
@@ -85,13 +92,14 @@ pub const SHAPES: [Shape; 7] = [
     },
     Shape {
         name: "old proofs",
-        sizes: [5, 5, 5],
+        sizes: [15, 15, 10],
         places: 300,
+        times: 0,
         seats: 16,
-        collects: 200,
+        collects: 150,
         proofs: 250,
         ends: 15,
-        locks: 350,
+        locks: 300,
         drops: 50,
         reads: 150,
     },
@@ -99,6 +107,7 @@ pub const SHAPES: [Shape; 7] = [
         name: "sizes that no store has",
         sizes: [1000, 24, 1],
         places: 4,
+        times: 0,
         seats: 16,
         collects: 60,
         proofs: 300,
@@ -107,18 +116,17 @@ pub const SHAPES: [Shape; 7] = [
         drops: 50,
         reads: 300,
     },
+    Shape {
+        name: "the clock's end",
+        sizes: [2, 1, 1],
+        places: 50,
+        times: 999_900,
+        seats: 16,
+        collects: 100,
+        proofs: 200,
+        ends: 200,
+        locks: 400,
+        drops: 100,
+        reads: 200,
+    },
 ];
-
-// The phase at the end of the clock.
-pub const CLOCK: Shape = Shape {
-    name: "the clock's end",
-    sizes: [2, 1, 1],
-    places: 50,
-    seats: 16,
-    collects: 100,
-    proofs: 300,
-    ends: 100,
-    locks: 300,
-    drops: 60,
-    reads: 200,
-};

@@ -57,6 +57,15 @@ impl Tally {
         sum
     }
 
+    pub fn is_same(&self, other: &Tally) -> bool {
+        self.calls == other.calls
+            && self
+                .counts
+                .iter()
+                .zip(other.counts.iter())
+                .all(|(count, more)| *count == *more)
+    }
+
     pub fn add(&mut self, other: &Tally) {
         self.calls = self.calls.saturating_add(other.calls);
         for (count, more) in self.counts.iter_mut().zip(other.counts.iter()) {

@@ -39,7 +39,8 @@ fn last_seat<K: Made>(rt: &HostRuntime) -> Result<()> {
     let wanted = Refusal::Seat;
     declined(&mut run, Call::Proof { seat: 16 }, wanted)?;
     let number = wanted.number();
-    println!(rt; "seat 15 is served, seat 16 is declined by {number}, {wanted}")?;
+    let name = K::name();
+    println!(rt; "{name}: seat 15 is served, seat 16 is declined by {number}, {wanted}")?;
     Ok(())
 }
 
@@ -75,8 +76,9 @@ fn full_drafts<K: Made>(rt: &HostRuntime) -> Result<()> {
         wanted,
     )?;
     let number = wanted.number();
+    let name = K::name();
     println!(rt;
-        "with 16 drafts a rewrite is granted, a 17th entry is declined by {number}, {wanted}"
+        "{name}: with 16 drafts a rewrite is granted, a 17th entry is declined by {number}, {wanted}"
     )?;
     Ok(())
 }
