@@ -88,7 +88,8 @@ fn any(dice: &mut Dice, plain: &Plain, seat: u16) -> Call {
 }
 
 fn of_edit(dice: &mut Dice, shape: &Shape, plain: &Plain, seat: u16) -> Call {
-    if dice.chance(shape.locks) {
+    let empty = left_of(plain, seat) == 0;
+    if dice.chance(shape.locks) && (!empty || dice.chance(100)) {
         return Call::Lock { seat };
     }
     if dice.chance(shape.drops) {
@@ -123,7 +124,7 @@ fn of_stamped(dice: &mut Dice, plain: &Plain, seat: u16) -> Call {
         return Call::Put { seat };
     }
     match slowest(plain) {
-        Some(other) if !dice.chance(200) => Call::Put { seat: other },
+        Some(other) if !dice.chance(400) => Call::Put { seat: other },
         _ => Call::Settle { seat },
     }
 }

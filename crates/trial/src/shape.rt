@@ -120,7 +120,7 @@ pub const SHAPES: [Shape; 8] = [
         name: "the clock's end",
         sizes: [2, 1, 1],
         places: 50,
-        times: 999_900,
+        times: 999_000,
         seats: 16,
         collects: 100,
         proofs: 200,
