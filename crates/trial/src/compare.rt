@@ -115,6 +115,24 @@ pub fn compare_versions<K: Keeper>(
     Ok(())
 }
 
+// The version of an entry at any time, and the next one.
+pub fn compare_at<K: Keeper>(
+    keeper: &K,
+    plain: &Plain,
+    entry: u16,
+    time: u32,
+) -> Result<(), Difference> {
+    let found = keeper.find(entry, time).map(|version| version.time);
+    let other = plain.newest(entry, time).map(|held| held.time);
+    if found != other {
+        return Err(Difference::Version(entry));
+    }
+    if keeper.after(entry, time) != plain.next_time(entry, time) {
+        return Err(Difference::Follower(entry));
+    }
+    Ok(())
+}
+
 // Everything: the state, all rows, and all versions.
 pub fn compare_all<K: Keeper>(store: &Store<K>, plain: &Plain) -> Result<(), Difference> {
     compare_state(store, plain)?;

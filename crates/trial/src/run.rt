@@ -1,5 +1,7 @@
 // A run: each call is made on the store under test and on the plain one, and what they answer and hold is compared.
-use crate::compare::{Difference, compare_all, compare_row, compare_state, compare_versions};
+use crate::compare::{
+    Difference, compare_all, compare_at, compare_row, compare_state, compare_versions,
+};
 use crate::law::Law;
 use crate::made::Made;
 use crate::plain::Plain;
@@ -79,12 +81,15 @@ impl<K: Made> Run<K> {
         Ok(())
     }
 
+    // Only a put and a collect change versions; of an entry that is read or written they are compared too.
     fn compare_touched(&self, call: Call) -> Result<(), Difference> {
+        let keeper = self.store.keeper();
         let adds = matches!(call, Call::Put { .. });
         for entry in &self.touched {
             compare_row(&self.store, &self.plain, *entry)?;
             if adds || entry_of(call).is_some() {
-                compare_versions(self.store.keeper(), &self.plain, *entry, DEPTH)?;
+                compare_versions(keeper, &self.plain, *entry, DEPTH)?;
+                compare_at(keeper, &self.plain, *entry, self.plain.floor())?;
             }
         }
         Ok(())
