@@ -90,5 +90,5 @@ pub fn phase<K: Made>(alloc: Global, shape: &Shape, seed: u64, calls: u32) -> Re
     pass_times(&mut run, shape.times)?;
     thrown(&mut run, &mut dice, shape, calls)?;
     close(&mut run)?;
-    Ok(run.tally)
+    run.try_again()
 }

@@ -41,18 +41,21 @@ pub struct Run<K: Made> {
     touched: Vec<u16>,
 }
 
+fn sizes_of(sizes: [u16; 3]) -> Sizes {
+    let [letters, marks, pairs] = sizes;
+    Sizes {
+        letters: letters as usize,
+        marks: marks as usize,
+        pairs: pairs as usize,
+    }
+}
+
 impl<K: Made> Run<K> {
     // Two new stores of letters, marks and pairs.
     pub fn new(alloc: Global, sizes: [u16; 3], places: usize) -> Result<Run<K>, AllocError> {
         let plain = Plain::new(alloc, sizes, places)?;
-        let [letters, marks, pairs] = sizes;
-        let sizes = Sizes {
-            letters: letters as usize,
-            marks: marks as usize,
-            pairs: pairs as usize,
-        };
         Ok(Run {
-            store: Store::new(K::made(alloc, places)?, sizes),
+            store: Store::new(K::made(alloc, places)?, sizes_of(sizes)),
             law: Law::new(alloc, plain.entries())?,
             plain,
             tally: Tally::new(alloc)?,
@@ -167,5 +170,30 @@ impl<K: Made> Run<K> {
     // Tries what the law says of the versions that are left when all is collected.
     pub fn try_left(&self) -> Result<()> {
         self.law.check_left(self.store.keeper())
+    }
+
+    // Takes the keeper back and makes a new store over it, which has no entries where a version is held.
+    pub fn try_again(self) -> Result<Tally> {
+        let Run {
+            store,
+            plain,
+            tally,
+            ..
+        } = self;
+        let keeper = store.into_keeper();
+        ensure!(
+            keeper.held() as usize == plain.versions.len(),
+            "the keeper came back with other versions"
+        );
+        let serves = plain.versions.is_empty() && plain.entries() > 0;
+        let sizes = [plain.letters, plain.marks, plain.pairs];
+        let mut again = Store::new(keeper, sizes_of(sizes));
+        let opened = again.apply(Call::Proof { seat: 0 });
+        let read = again.apply(Call::Read { seat: 0, entry: 0 });
+        ensure!(
+            opened.is_ok() && read.is_ok() == serves,
+            "a new store over the keeper answers {read:?}"
+        );
+        Ok(tally)
     }
 }
