@@ -1,0 +1,90 @@
+// What proofs cannot say is tried: long runs of calls are made on a store over each keeper and on a plain store, written apart from
+// it, and compared after each call; then the law is tried on the answers. A seed and a number of calls for each phase may be given.
+#![tactic(auto)]
+
+mod account;
+mod choice;
+mod compare;
+mod dice;
+mod law;
+mod made;
+mod phase;
+mod plain;
+mod refused;
+mod run;
+mod seat;
+mod served;
+mod shape;
+mod sitting;
+mod tally;
+mod worked;
+
+use anyhow::{Context, Result, ensure};
+use linked::Linked;
+use phase::phase;
+use roll::Roll;
+use shape::{SHAPES, Shape};
+use std::env;
+use tally::Tally;
+use worked::{try_cases, try_script};
+
+// The seed, and how many calls each phase throws.
+#[derive(Clone, Copy)]
+struct Length {
+    seed: u64,
+    calls: u32,
+}
+
+// One phase over both keepers. They are told the same calls, so the table is one.
+fn try_phase(rt: &HostRuntime, shape: &Shape, seed: u64, calls: u32) -> Result<Tally> {
+    let title = shape.name;
+    let mut tally = phase::<Linked>(rt.alloc(), shape, seed, calls).context(format_args!(
+        "{title}, over the linked keeper"
+    ))?;
+    let other = phase::<Roll>(rt.alloc(), shape, seed, calls).context(format_args!(
+        "{title}, over the roll keeper"
+    ))?;
+    ensure!(tally.is_same(&other), "{title}: the keepers' tables differ");
+    let each = tally.calls;
+    println!(rt; "{title}: {each} calls over the linked keeper, {each} over the roll keeper")?;
+    tally.print(rt)?;
+    tally.add(&other);
+    Ok(tally)
+}
+
+// All phases.
+fn try_phases(rt: &HostRuntime, length: Length) -> Result<()> {
+    let mut all = Tally::new(rt.alloc())?;
+    for (place, shape) in SHAPES.iter().enumerate() {
+        let seed = length.seed.wrapping_add(place as u64);
+        all.add(&try_phase(rt, shape, seed, length.calls)?);
+    }
+    print!(rt; "all phases over both keepers: ")?;
+    all.print_short(rt)?;
+    Ok(())
+}
+
+// The length that was asked for, or the usual one.
+fn asked_length(rt: &HostRuntime) -> Result<Length> {
+    let mut length = Length {
+        seed: 1,
+        calls: 40_000,
+    };
+    for (place, word) in env::args(rt)?.enumerate() {
+        if place == 1 {
+            length.seed = word.parse::<u64>().context("the seed is no number")?;
+        }
+        if place == 2 {
+            length.calls = word.parse::<u32>().context("the number of calls is none")?;
+        }
+    }
+    Ok(length)
+}
+
+fn main(rt: HostRuntime) -> Result<()> {
+    let length = asked_length(&rt)?;
+    try_script(&rt)?;
+    try_cases::<Linked>(&rt)?;
+    try_cases::<Roll>(&rt)?;
+    try_phases(&rt, length)
+}

@@ -1,0 +1,94 @@
+// A phase: a new store, calls as its shape has them, and an end at which all is settled and collected.
+use crate::choice::next_call;
+use crate::dice::Dice;
+use crate::made::Made;
+use crate::plain::SEATS;
+use crate::run::Run;
+use crate::shape::Shape;
+use crate::tally::Tally;
+use anyhow::Result;
+use rules::call::Call;
+use rules::stage::Stage;
+use std::alloc::Global;
+
+// Ends proofs, drops edits that have no time, and puts the drafts of those that have one.
+fn put_off<K: Made>(run: &mut Run<K>, seat: u16) -> Result<()> {
+    match run.plain.stage(seat) {
+        Stage::Idle => {}
+        Stage::Proof { .. } => {
+            run.step(Call::End { seat })?;
+        }
+        Stage::Edit { .. } | Stage::Locked { .. } => {
+            run.step(Call::Drop { seat })?;
+        }
+        Stage::Stamped { .. } => {
+            let left = run.plain.seat(seat).map_or(0, |of| of.unput());
+            for _ in 0..left {
+                run.step(Call::Put { seat })?;
+            }
+        }
+    }
+    Ok(())
+}
+
+// Collects until each entry is declined.
+fn collect_all<K: Made>(run: &mut Run<K>) -> Result<()> {
+    for entry in 0..run.plain.entries() {
+        for _ in 0..run.plain.places {
+            if run.ask(Call::Collect { entry })?.is_err() {
+                break;
+            }
+        }
+    }
+    Ok(())
+}
+
+// Brings a run to rest, and tries it.
+fn close<K: Made>(run: &mut Run<K>) -> Result<()> {
+    for seat in 0..SEATS {
+        put_off(run, seat)?;
+    }
+    for seat in 0..SEATS {
+        run.step(Call::Settle { seat })?;
+    }
+    collect_all(run)?;
+    run.compare_whole()?;
+    run.try_law()?;
+    run.try_left()
+}
+
+fn thrown<K: Made>(run: &mut Run<K>, dice: &mut Dice, shape: &Shape, calls: u32) -> Result<()> {
+    for _ in 0..calls {
+        let call = next_call(dice, shape, &run.plain);
+        run.step(call)?;
+    }
+    Ok(())
+}
+
+// Gives so many times, by edits without drafts.
+fn pass_times<K: Made>(run: &mut Run<K>, times: u32) -> Result<()> {
+    for time in 0..times {
+        let seat = (time % 16) as u16;
+        let calls = [
+            Call::Edit { seat },
+            Call::Lock { seat },
+            Call::Stamp { seat },
+            Call::Settle { seat },
+        ];
+        run.pass(&calls)?;
+        if time.is_multiple_of(1000) {
+            run.compare_whole()?;
+        }
+    }
+    Ok(())
+}
+
+// The times that the shape begins with, so many calls of it, and the end.
+pub fn phase<K: Made>(alloc: Global, shape: &Shape, seed: u64, calls: u32) -> Result<Tally> {
+    let mut run: Run<K> = Run::new(alloc, shape.sizes, shape.places)?;
+    let mut dice = Dice::new(seed);
+    pass_times(&mut run, shape.times)?;
+    thrown(&mut run, &mut dice, shape, calls)?;
+    close(&mut run)?;
+    run.try_again()
+}
