@@ -86,7 +86,7 @@ fn full_drafts<K: Made>(rt: &HostRuntime) -> Result<()> {
 // A script gives the answers that are written for it. Its store has a keeper of its own.
 pub fn try_script(rt: &HostRuntime) -> Result<()> {
     let mut memory = vec![in rt.alloc(); 0u8; room_for(SCRIPT)]?;
-    match run_on_scratch(rt.alloc(), SCRIPT, &mut memory)? {
+    match run_on_scratch(rt.alloc(), SCRIPT, &mut memory) {
         Ok(len) => {
             let answers = memory.get(..len);
             ensure!(
