@@ -39,6 +39,9 @@ def function_at(folder, path, number):
         return os.path.basename(os.path.dirname(path))
     with open(os.path.join(folder, path), encoding="utf-8") as file:
         lines = file.read().split("\n")
+    # A function begins at its attribute.
+    while lines[number - 1].lstrip().startswith("#["):
+        number += 1
     names = [found[1] for found in map(FUNCTION.match, lines[:number]) if found]
     return names[-1] if names else ""
 
