@@ -4,6 +4,9 @@
 python3 tools/bugs.py [CRATE..] > TABLE tries those of these crates, or all. The code is what is committed, in a clone that is thrown
 away; there the bugs stand in the place of the crates' own must-fail edits, and `rt must-fail` checks each crate with one bug in it
 after the other. It ends with an error if a crate is still proved with a bug, or if a bug was not tried.
+
+It begins with what `rt check` kept of the crates in any copy on the machine, and else proves each first. With that kept, all bugs took
+43 minutes on four busy cores; a second run takes those that stayed the same, with the code they stand on, from what the first kept.
 """
 
 import glob
