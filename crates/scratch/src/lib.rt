@@ -20,6 +20,7 @@ const SIZES: Sizes = Sizes {
 };
 
 // The new store.
+#[tactic(auto, using(crate::proofs::Founded::founded))]
 fn scratch_store(alloc: Global) -> Store<Linked>
     ensures { view linked_kept linked_places result ≡ scratch }
 {
