@@ -19,7 +19,7 @@ test:
 	sh tools/tryout.sh
 	$(MAKE) host-test
 
-# The C program over the static library. The toolchain's liblibc_c.a has what the library asks of malloc and free.
+# The C program over the static library. The toolchain's liblibc_c.a has the one name that the library leaves open.
 host:
 	cd crates/nalzeiku && rt lib
 	mkdir -p $(HOST)
