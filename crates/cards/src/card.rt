@@ -2,8 +2,8 @@
 ghost use Rattle.std.specs.Prelude.{◌≡◌, ◌<◌};
 ghost use Rattle.cards.specs.Cards.{blank_card, bit, map_of};
 
-// Six fields, each a number or absent. An absent field has no number that could disagree with the bit map. They are named, and no array, as
-// the project wants; so what goes over them is written out.
+// Six fields, each a number or absent. An absent field has no number that could disagree with the bit map. They have names, where an array
+// would have positions; so what goes over all six is written out.
 #[derive(Clone, Copy, Default, PartialEq, Eq, Debug)]
 pub struct Card {
     pub advance: Option<i16>,

@@ -2,6 +2,7 @@
 ghost use Rattle.std.specs.Prelude.{◌≡◌, Some};
 ghost use Rattle.cards.specs.Refusals.{number_of, word_of};
 
+use std::error::Error;
 use std::fmt;
 
 // One case for each word of the table, with its number, in the table's order. Where several apply, the first is given.
@@ -77,3 +78,6 @@ impl fmt::Display for Refusal {
         f.write_str(self.word())
     }
 }
+
+// So that a host's `?` takes it into an error of its own.
+impl Error for Refusal {}

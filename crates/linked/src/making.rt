@@ -61,8 +61,7 @@ impl Linked {
         }
     }
 
-    // A keeper of nothing, in the first 65,536 places of the memory. Tried as a trait, with the type of a place as its associated
-    // type: the check can't give `new` the trait's clauses, so each keeper writes them again, and the trait says nothing once.
+    // A keeper of nothing, in the first 65,536 places of the memory.
     pub fn new(memory: Vec<Place>) -> Linked
         ensures empty { Empty (linked_kept result) }
         ensures places { linked_places result ≡ used_of (vec_len memory) }

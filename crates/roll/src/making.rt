@@ -7,8 +7,6 @@ ghost use Rattle.roll.specs.View.{roll_kept, roll_places, roll_memory};
 use crate::keeper::Roll;
 use keepers::version::Version;
 
-// Tried as a trait, with the type of a place as its associated type: the check can't give `new` the trait's clauses, so each keeper
-// writes them again, and the trait says nothing once.
 impl Roll {
     // A roll of no version. Nothing is written, and memory past the first 65,536 places is not used.
     #[tactic(auto, using(crate::proofs::Adds::rolled_none))]

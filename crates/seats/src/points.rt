@@ -1,8 +1,9 @@
 // The ready point, the floor, and how many drafts are not yet put.
-ghost use Rattle.std.specs.Prelude.{◌≡◌, ◌≤◌, map, length};
-ghost use Rattle.rules.specs.State.{bound, ready_of, floor_of, unput_of, unput_all};
-ghost use Rattle.seats.specs.View.{view_seat};
+ghost use Rattle.std.specs.Prelude.{◌≡◌, ◌+◌, ◌≤◌, map, length, nat_lt};
+ghost use Rattle.rules.specs.State.{ready_of, floor_of, unput_of, unput_all};
+ghost use Rattle.seats.specs.View.{view_seat, in_seats};
 
+use crate::numbered::drafts_len;
 use crate::seat::{SEATS, Seat};
 use rules::stage::Stage;
 
@@ -17,16 +18,6 @@ impl Seat {
             _ => 0,
         }
     }
-
-    // What the seat lets the ready point be.
-    fn bound(&self, clock: u32) -> u32
-        ensures { result ≡ bound clock (view_seat self.now).drafts self.now.stage }
-    {
-        match self.stage {
-            Stage::Stamped { time, put } if put < self.drafts_len() => time.saturating_sub(1),
-            _ => clock,
-        }
-    }
 }
 
 // The ready point: up to it everything that was stamped is put.
@@ -35,8 +26,13 @@ pub fn ready(seats: &[Seat], clock: u32) -> u32
     ensures { result ≡ ready_of clock (map view_seat seats.now) }
 {
     let mut least = clock;
+    // A seat without a stamped edit costs one test.
     for seat in seats {
-        least = least.min(seat.bound(clock));
+        if let Stage::Stamped { time, put } = seat.stage {
+            if put < seat.drafts_len() {
+                least = least.min(time.saturating_sub(1));
+            }
+        }
     }
     least
 }
@@ -61,4 +57,17 @@ pub fn unput(seats: &[Seat; SEATS]) -> u32
     ensures few { result ≤ 256 }
 {
     seats.iter().map(|seat| seat.unput()).sum()
+}
+
+// More than all seats can have to put, sixteen each, and one of them sixteen more.
+const MOST_DRAFTS: u32 = 272;
+
+// Whether so many free places are too few for what all seats have not yet put and the drafts of this one. Where more are free than there
+// can be drafts, none is counted.
+#[tactic(auto, using(crate::proofs::Sums::left_few))]
+pub fn lacks(seats: &[Seat; SEATS], seat: u16, spare: u32) -> bool
+    ensures { result ≡ nat_lt spare (unput_all (map view_seat seats.now) + length (in_seats seats.now seat).drafts) }
+{
+    let drafts = drafts_len(seats, seat);
+    spare < MOST_DRAFTS && spare < unput(seats) + drafts
 }

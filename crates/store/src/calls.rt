@@ -18,7 +18,7 @@ use rules::stage::Stage;
 use seats::numbered::{
     begin, draft, draft_at, draft_of, drafts_len, drafts_of, go_on, note, reads_of,
 };
-use seats::points::unput;
+use seats::points::lacks;
 
 // The last time that the clock gives.
 const LAST_TIME: u32 = 1000000;
@@ -84,17 +84,16 @@ impl<K: Keeper> Store<K> {
         ensures keeper { self.new.keeper ≡ self.old.keeper }
         ensures same { is_ok result ≡ false → self.new ≡ self.old }
     {
-        match self.table.stage(seat)? {
-            Stage::Proof { start } => {
-                self.table.entry(entry)?;
-                Ok(self.card_at(entry, start))
-            }
-            Stage::Edit { start } => {
-                self.table.entry(entry)?;
-                self.read_edit(seat, entry, start)
-            }
-            _ => Err(Refusal::Stage),
+        let stage = self.table.stage(seat)?;
+        if let Stage::Proof { start } = stage {
+            self.table.entry(entry)?;
+            return Ok(self.card_at(entry, start));
         }
+        let Stage::Edit { start } = stage else {
+            return Err(Refusal::Stage);
+        };
+        self.table.entry(entry)?;
+        self.read_edit(seat, entry, start)
     }
 
     // Drafts a card for an entry.
@@ -153,7 +152,7 @@ impl<K: Keeper> Store<K> {
         if any_stale(table.rows(), start, reads) {
             return Err(Refusal::Stale);
         }
-        if self.keeper.spare() < unput(&table.seats) + drafts_len(&table.seats, seat) {
+        if lacks(&table.seats, seat, self.keeper.spare()) {
             return Err(Refusal::Places);
         }
         if table.clock >= LAST_TIME {
