@@ -17,7 +17,7 @@ pub fn take_locks(rows: &mut [Row], seat: u16, drafts: &[Draft])
     }
 }
 
-// A lock, unless a seat has it.
+// What is left of a lock when a seat lets go: another seat's stays.
 fn unless(lock: Option<u16>, seat: u16) -> Option<u16>
     ensures { result ≡ unless seat lock }
 {

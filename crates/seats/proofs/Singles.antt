@@ -10,16 +10,16 @@ use Rattle.rules.specs.State.{Seat as SeatOf, look, written, has}
 use Rattle.std.proofs.Math.Bool.{Bool-set}
 use mathlib.Core.HLevel.{is_prop→PathP}
 use Rattle.seats.specs.Once.{once}
-use Rattle.seats.specs.declared.drafts.Drafts.{Drafts as DraftsOf}
+use Rattle.seats.specs.declared.drafts.Drafts.{Drafts}
 use Rattle.seats.specs.declared.seat.Seat.{Seat as TheSeat}
 use Rattle.seats.specs.View.{listed, pushed, may_write, draft_seat}
 
 -- the search's property of an entry on a reading list, and of a draft
-abbrev pub Is : ℕ → ℕ → Type 0
-Is n m = (m ≡ n) × (0 ≤ 0)
+abbrev pub IsEntry : ℕ → ℕ → Type 0
+IsEntry n m = (m ≡ n) × (0 ≤ 0)
 
-abbrev pub Drafts : ℕ → Draft → Type 0
-Drafts n d = (d.entry ≡ n) × (0 ≤ 0)
+abbrev pub OfEntry : ℕ → Draft → Type 0
+OfEntry n d = (d.entry ≡ n) × (0 ≤ 0)
 
 -- ---- reading lists
 
@@ -65,22 +65,22 @@ once_written (d ∷ ds) n c o = let p : once ds ≡ true = grind arith in let r 
 
 -- ---- what the search finds in a slice xs of them
 
-pub read_found : (xs ms : List ℕ) (n : ℕ) (r : Option ℕ) → xs ≡ ms → Last (Is n) xs r → is_some r ≡ has ms n
-read_found xs ms n None e h = sym (has_not ms n (λ i l q. subst (λ (ys : List ℕ). Last (Is n) ys None) e h i 0 l (q, omega arith)))
-read_found xs ms n (Some i) e h = let k = subst (λ (ys : List ℕ). Last (Is n) ys (Some i)) e h in sym (has_at ms n i k.0 (k.1 0).0)
+pub read_found : (xs ms : List ℕ) (n : ℕ) (r : Option ℕ) → xs ≡ ms → Last (IsEntry n) xs r → is_some r ≡ has ms n
+read_found xs ms n None e h = sym (has_not ms n (λ i l q. subst (λ (ys : List ℕ). Last (IsEntry n) ys None) e h i 0 l (q, omega arith)))
+read_found xs ms n (Some i) e h = let k = subst (λ (ys : List ℕ). Last (IsEntry n) ys (Some i)) e h in sym (has_at ms n i k.0 (k.1 0).0)
 
-pub draft_found : (xs ds : List Draft) (n i : ℕ) (z : Draft) → xs ≡ ds → Last (Drafts n) xs (Some i) → once ds ≡ true → Some (get_or xs i z).card ≡ look ds n
+pub draft_found : (xs ds : List Draft) (n i : ℕ) (z : Draft) → xs ≡ ds → Last (OfEntry n) xs (Some i) → once ds ≡ true → Some (get_or xs i z).card ≡ look ds n
 draft_found xs ds n i z e h o =
-    subst (λ (ys : List Draft). Last (Drafts n) ys (Some i) → Some (get_or ys i z).card ≡ look ds n) (sym e)
+    subst (λ (ys : List Draft). Last (OfEntry n) ys (Some i) → Some (get_or ys i z).card ≡ look ds n) (sym e)
     (λ k. sym (subst (λ (m : ℕ). look ds m ≡ Some (get_or ds i z).card) (k.1 z).0 (look_at ds i z k.0 o))) h
 
-pub draft_missed : (xs ds : List Draft) (n : ℕ) → xs ≡ ds → Last (Drafts n) xs None → None ≡ look ds n
-draft_missed xs ds n e h = sym (look_not ds n (λ i d l q. subst (λ (ys : List Draft). Last (Drafts n) ys None) e h i d l (q, omega arith)))
+pub draft_missed : (xs ds : List Draft) (n : ℕ) → xs ≡ ds → Last (OfEntry n) xs None → None ≡ look ds n
+draft_missed xs ds n e h = sym (look_not ds n (λ i d l q. subst (λ (ys : List Draft). Last (OfEntry n) ys None) e h i d l (q, omega arith)))
 
 abbrev pub no_draft : Draft
 no_draft = record { entry = 0; card = blank_card }
 
-pub draft_mapped : (xs ds : List Draft) (n : ℕ) (r : Option ℕ) → xs ≡ ds → Last (Drafts n) xs r → once ds ≡ true → option_map (λ at. (get_or xs at no_draft).card) r ≡ look ds n
+pub draft_mapped : (xs ds : List Draft) (n : ℕ) (r : Option ℕ) → xs ≡ ds → Last (OfEntry n) xs r → once ds ≡ true → option_map (λ at. (get_or xs at no_draft).card) r ≡ look ds n
 draft_mapped xs ds n None e h o = draft_missed xs ds n e h
 draft_mapped xs ds n (Some i) e h o = draft_found xs ds n i no_draft e h o
 
@@ -88,21 +88,21 @@ draft_mapped xs ds n (Some i) e h o = draft_found xs ds n i no_draft e h o
 
 module _ (x : SeatOf) (n : ℕ) (c : Card) (xs : List Draft) (same : xs ≡ x.drafts) where
   -- in place of the one that was found
-  pub may_replace : (i : ℕ) → Last (Drafts n) xs (Some i) → once x.drafts ≡ true → true ≡ may_write x n
+  pub may_replace : (i : ℕ) → Last (OfEntry n) xs (Some i) → once x.drafts ≡ true → true ≡ may_write x n
   may_replace i h o = let f = draft_found xs x.drafts n i (record { entry = n; card = c }) same h o in grind arith
 
-  pub replaced : (i : ℕ) → Last (Drafts n) xs (Some i) → once x.drafts ≡ true → set x.drafts i (record { entry = n; card = c }) ≡ (draft_seat x n c).drafts
+  pub replaced : (i : ℕ) → Last (OfEntry n) xs (Some i) → once x.drafts ≡ true → set x.drafts i (record { entry = n; card = c }) ≡ (draft_seat x n c).drafts
   replaced i h o =
       let m = may_replace i h o in
-      let k = subst (λ (ys : List Draft). Last (Drafts n) ys (Some i)) same h in
+      let k = subst (λ (ys : List Draft). Last (OfEntry n) ys (Some i)) same h in
       let r = subst (λ (j : ℕ). set x.drafts i (record { entry = j; card = c }) ≡ written x.drafts j c) (k.1 (record { entry = n; card = c })).0 (written_at x.drafts i (record { entry = n; card = c }) c k.0 o) in
       grind arith
 
   -- or at the end, where there is none
-  pub may_push : Last (Drafts n) xs None → ltb (length x.drafts) 16 ≡ may_write x n
+  pub may_push : Last (OfEntry n) xs None → ltb (length x.drafts) 16 ≡ may_write x n
   may_push h = let f = draft_missed xs x.drafts n same h in grind arith
 
-  pub pushed_is : Last (Drafts n) xs None → pushed 16 x.drafts (record { entry = n; card = c }) ≡ (draft_seat x n c).drafts
+  pub pushed_is : Last (OfEntry n) xs None → pushed 16 x.drafts (record { entry = n; card = c }) ≡ (draft_seat x n c).drafts
   pushed_is h = let f = draft_missed xs x.drafts n same h in let r = written_new x.drafts n c (sym f) in grind arith
 
 -- no entry has two drafts then, and nothing else changes
@@ -113,9 +113,9 @@ pub with_drafts : (x : SeatOf) (n : ℕ) (c : Card) (ds : List Draft) → ds ≡
 with_drafts x n c ds e = (λ i. record { stage = x.stage; reads = x.reads; drafts = e i }) ∙ grind arith
 
 -- drafts with the same list are the same
-pub same_drafts : (x y : DraftsOf) → x.list ≡ y.list → x ≡ y
+pub same_drafts : (x y : Drafts) → x.list ≡ y.list → x ≡ y
 same_drafts x y q = λ i. record { list = q i; single = is_prop→PathP (λ j. once (listed (q j)) ≡ true) (λ j. hlevel Bool-set) x.single y.single i }
 
 -- a seat of the program with other drafts
-abbrev pub seat_with : TheSeat → DraftsOf → TheSeat
+abbrev pub seat_with : TheSeat → Drafts → TheSeat
 seat_with x d = record { stage = x.stage; reads = x.reads; drafts = d }

@@ -1,4 +1,4 @@
--- What a short list and a seat stand for.
+-- What a short list and a seat stand for, and what a noted read and a draft make of a seat.
 use Rattle.std.specs.Prelude.{ℕ, Bool, cond, ◌||◌, List, [], ◌∷◌, ◌++◌, map, length, slice_index_or, take, is_some, Some, None, Ok, Err, Option, Result, nat_lt}
 use Rattle.cards.specs.declared.card.Card.{Card}
 use Rattle.cards.specs.declared.draft.Draft.{Draft}
@@ -21,7 +21,7 @@ pushed n xs x = cond (nat_lt (length xs) n) (xs ++ x ∷ []) xs
 abbrev pub view_seat : Seat → SeatOf
 view_seat x = record { stage = x.stage; reads = listed x.reads; drafts = listed x.drafts.list }
 
--- List for what has no place
+-- the answer to what needs a place: nothing where it has one, List where it has none
 abbrev pub if_placed : Bool → Result (Unit {0}) Refusal
 if_placed b = cond b (Ok tt) (Err why.List)
 

@@ -1,4 +1,4 @@
-// The seats: what each holds, and the points that follow from all of them.
+// The seats: what each holds, and what follows from all of them.
 #![tactic(auto)]
 
 mod drafts;
@@ -7,4 +7,5 @@ pub mod numbered;
 pub mod points;
 pub mod seat;
 mod short;
+pub mod unput;
 mod work;

@@ -11,7 +11,7 @@ pub struct Short<T, const N: usize> {
     ghost within: { used ≤ N },
 }
 
-// A copy, since no list asks for memory.
+// A clone is a copy, and never fails: no list asks for memory.
 impl<T: Copy, const N: usize> Clone for Short<T, N> {
     ghost is_clone = { λ x y. y ≡ x };
 

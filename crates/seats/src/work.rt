@@ -31,6 +31,36 @@ impl Seat {
         }
     }
 
+    // The entries that its edit has read.
+    pub(crate) fn reads(&self) -> &[u16]
+        ensures { result.now ≡ (view_seat self.now).reads }
+    {
+        self.reads.as_slice()
+    }
+
+    // Its drafts.
+    pub(crate) fn drafts(&self) -> &[Draft]
+        ensures { result.now ≡ (view_seat self.now).drafts }
+    {
+        self.drafts.list.as_slice()
+    }
+
+    // Its draft of an entry.
+    pub(crate) fn draft_of(&self, entry: u16) -> Option<Card>
+        ensures { result ≡ look (view_seat self.now).drafts entry }
+    {
+        let drafts = self.drafts.list.as_slice();
+        last_match(drafts, entry, 0).map(|at| drafts[at].card)
+    }
+
+    // How many drafts it has.
+    pub(crate) fn drafts_len(&self) -> u32
+        ensures count { result ≡ length (view_seat self.now).drafts }
+        ensures few { result ≤ 16 }
+    {
+        self.drafts.list.len() as u32
+    }
+
     // Begins a stage with empty lists.
     pub(crate) fn begin(&mut self, stage: Stage)
         ensures { view_seat self.new ≡ staged stage }
@@ -66,14 +96,6 @@ impl Seat {
         self.reads.push(entry)
     }
 
-    // Its draft of an entry.
-    pub(crate) fn draft_of(&self, entry: u16) -> Option<Card>
-        ensures { result ≡ look (view_seat self.now).drafts entry }
-    {
-        let drafts = self.drafts.list.as_slice();
-        last_match(drafts, entry, 0).map(|at| drafts[at].card)
-    }
-
     // Drafts a card for an entry, in place of an earlier draft or at the end; List where it would be the 17th.
     pub(crate) fn draft(&mut self, entry: u16, card: Card) -> Result<(), Refusal>
         ensures seat { view_seat self.new ≡ draft_seat (view_seat self.old) entry card }
@@ -88,27 +110,5 @@ impl Seat {
             }
             None => self.drafts.list.push(draft),
         }
-    }
-
-    // How many drafts it has.
-    pub(crate) fn drafts_len(&self) -> u32
-        ensures count { result ≡ length (view_seat self.now).drafts }
-        ensures few { result ≤ 16 }
-    {
-        self.drafts.list.len() as u32
-    }
-
-    // The entries that its edit has read.
-    pub(crate) fn reads(&self) -> &[u16]
-        ensures { result.now ≡ (view_seat self.now).reads }
-    {
-        self.reads.as_slice()
-    }
-
-    // Its drafts.
-    pub(crate) fn drafts(&self) -> &[Draft]
-        ensures { result.now ≡ (view_seat self.now).drafts }
-    {
-        self.drafts.list.as_slice()
     }
 }

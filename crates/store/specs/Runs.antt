@@ -1,5 +1,5 @@
--- A list of calls whose answers go into lent memory, and the law of a store's history.
-use Rattle.std.specs.Prelude.{ℕ, cond, List, [], ◌++◌, length, drop, Ok, Err, Result, nat_le}
+-- Which calls change the keeper, a list of calls whose answers go into lent memory, and the law of a store's history.
+use Rattle.std.specs.Prelude.{ℕ, Bool, true, false, cond, List, [], ◌++◌, length, drop, Ok, Err, Result, nat_le}
 use Rattle.cards.specs.declared.refusal.Refusal.{Refusal}
 use Rattle.cards.specs.declared.refusal.Refusal.TheVariants as why
 use Rattle.rules.specs.Law.{Law}
@@ -7,6 +7,21 @@ use Rattle.rules.specs.Runs.{Event, Reached, answers}
 use Rattle.rules.specs.State.{State}
 use Rattle.rules.specs.declared.answer.Answer.{Answer}
 use Rattle.rules.specs.declared.call.Call.{Call}
+use Rattle.rules.specs.declared.call.Call.TheVariants as call
+
+-- put and collect change the keeper, and no other call does
+abbrev pub changes_keeper : Call → Bool
+changes_keeper (call.Proof k) = false
+changes_keeper (call.Edit k) = false
+changes_keeper (call.Read k n) = false
+changes_keeper (call.Write k n c) = false
+changes_keeper (call.Lock k) = false
+changes_keeper (call.Stamp k) = false
+changes_keeper (call.Put k) = true
+changes_keeper (call.Settle k) = false
+changes_keeper (call.Drop k) = false
+changes_keeper (call.End k) = false
+changes_keeper (call.Collect n) = true
 
 -- the calls that are made where so many answers have a place: all or, where that is too few, none
 abbrev pub made : List Call → ℕ → List Call

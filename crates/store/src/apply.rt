@@ -1,7 +1,7 @@
 // Any one call, and any list of calls.
 ghost use Rattle.std.specs.Prelude.{◌≡◌, false, List, ◌∷◌, is_ok, length};
 ghost use Rattle.rules.specs.Runs.{Event, event, events, Reached, step, play};
-ghost use Rattle.store.specs.Runs.{made, made_answer, answered_in, LawfulRun};
+ghost use Rattle.store.specs.Runs.{changes_keeper, made, made_answer, answered_in, LawfulRun};
 ghost use Rattle.store.specs.View.{view};
 
 use crate::store::Store;
@@ -11,10 +11,11 @@ use rules::answer::Answer;
 use rules::call::Call;
 
 impl<K: Keeper> Store<K> {
-    // Makes one call.
+    // Makes one call by its rule. It stands apart so that the law of `apply` can be proved from this contract.
     fn make(&mut self, call: Call) -> Result<Answer, Refusal>
         ensures state { view K.kept K.places self.new ≡ (step (view K.kept K.places self.old) call).0 }
         ensures answer { result ≡ (step (view K.kept K.places self.old) call).1 }
+        ensures keeper { changes_keeper call ≡ false → self.new.keeper ≡ self.old.keeper }
         ensures same { is_ok result ≡ false → self.new ≡ self.old }
     {
         match call {
@@ -38,6 +39,7 @@ impl<K: Keeper> Store<K> {
     pub fn apply(&mut self, call: Call) -> Result<Answer, Refusal>
         ensures state { view K.kept K.places self.new ≡ (step (view K.kept K.places self.old) call).0 }
         ensures answer { result ≡ (step (view K.kept K.places self.old) call).1 }
+        ensures keeper { changes_keeper call ≡ false → self.new.keeper ≡ self.old.keeper }
         ensures same { is_ok result ≡ false → self.new ≡ self.old }
         ensures law { (h : List Event) → Reached h (view K.kept K.places self.old) → LawfulRun (event call result ∷ h) (view K.kept K.places self.new) }
     {

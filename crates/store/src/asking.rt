@@ -18,7 +18,7 @@ impl<K: Keeper> Store<K> {
             .map_or(Card::blank(), |version| version.card)
     }
 
-    // The least time of an entry above a time and up to another that has a version.
+    // The least time above one and up to another at which an entry has a version.
     #[tactic(auto, using(crate::proofs::Following::next_is))]
     pub(crate) fn next_time(&self, entry: u16, time: u32, up_to: u32) -> Option<u32>
         ensures { result ≡ after ((view K.kept K.places self.now).kept entry) time up_to }

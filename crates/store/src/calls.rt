@@ -18,10 +18,10 @@ use rules::stage::Stage;
 use seats::numbered::{
     begin, draft, draft_at, draft_of, drafts_len, drafts_of, go_on, note, reads_of,
 };
-use seats::points::lacks;
+use seats::unput::lacks_places;
 
 // The last time that the clock gives.
-const LAST_TIME: u32 = 1000000;
+const LAST_TIME: u32 = 1_000_000;
 
 impl<K: Keeper> Store<K> {
     // Opens a proof on a seat, and answers its start.
@@ -85,14 +85,15 @@ impl<K: Keeper> Store<K> {
         ensures same { is_ok result ≡ false → self.new ≡ self.old }
     {
         let stage = self.table.stage(seat)?;
+        // A proof is looked for first, with no match over all stages: its reads are the many, and cost less so.
         if let Stage::Proof { start } = stage {
-            self.table.entry(entry)?;
+            self.table.check_entry(entry)?;
             return Ok(self.card_at(entry, start));
         }
         let Stage::Edit { start } = stage else {
             return Err(Refusal::Stage);
         };
-        self.table.entry(entry)?;
+        self.table.check_entry(entry)?;
         self.read_edit(seat, entry, start)
     }
 
@@ -107,7 +108,7 @@ impl<K: Keeper> Store<K> {
         let Stage::Edit { .. } = table.stage(seat)? else {
             return Err(Refusal::Stage);
         };
-        table.entry(entry)?;
+        table.check_entry(entry)?;
         if !table.fits(entry, card) {
             return Err(Refusal::Misfit);
         }
@@ -152,7 +153,7 @@ impl<K: Keeper> Store<K> {
         if any_stale(table.rows(), start, reads) {
             return Err(Refusal::Stale);
         }
-        if lacks(&table.seats, seat, self.keeper.spare()) {
+        if lacks_places(&table.seats, seat, self.keeper.spare()) {
             return Err(Refusal::Places);
         }
         if table.clock >= LAST_TIME {
@@ -164,7 +165,7 @@ impl<K: Keeper> Store<K> {
         Ok(time)
     }
 
-    // Hands the next draft to the keeper, and answers how many are left.
+    // Hands the next draft to the keeper, gives its row the edit's time, unlocks it, and answers how many drafts are left.
     #[tactic(auto, using(crate::proofs::Fronts::fronts))]
     pub fn put(&mut self, seat: u16) -> Result<u32, Refusal>
         ensures state { view K.kept K.places self.new ≡ (put (view K.kept K.places self.old) seat).0 }
@@ -175,14 +176,14 @@ impl<K: Keeper> Store<K> {
         let Stage::Stamped { time, put } = table.stage(seat)? else {
             return Err(Refusal::Stage);
         };
-        let drafts = drafts_len(&table.seats, seat);
+        let count = drafts_len(&table.seats, seat);
         let draft = draft_at(&table.seats, seat, put).ok_or(Refusal::Stage)?;
         let Draft { entry, card } = draft;
         self.keeper.add(Version { entry, time, card })?;
         set_row(&mut table.rows, entry, Row { time, lock: None });
         let put = put + 1;
         go_on(&mut table.seats, seat, Stage::Stamped { time, put });
-        Ok(drafts - put)
+        Ok(count - put)
     }
 
     // Closes a stamped edit, and answers its time.
@@ -206,7 +207,7 @@ impl<K: Keeper> Store<K> {
         Ok(time)
     }
 
-    // Gives an edit up, and releases its locks.
+    // Gives an edit up, and releases its locks. It is the call drop: a method of that name is taken by the language.
     #[tactic(auto, using(crate::proofs::Fronts::fronts))]
     pub fn drop_edit(&mut self, seat: u16) -> Result<(), Refusal>
         ensures state { view K.kept K.places self.new ≡ (dropping (view K.kept K.places self.old) seat).0 }
@@ -245,7 +246,7 @@ impl<K: Keeper> Store<K> {
         ensures answer { result ≡ (collect (view K.kept K.places self.old) entry).1 }
         ensures same { is_ok result ≡ false → self.new ≡ self.old }
     {
-        self.table.entry(entry)?;
+        self.table.check_entry(entry)?;
         let floor = self.table.floor();
         let oldest = self.next_time(entry, 0, floor).ok_or(Refusal::Needed)?;
         self.next_time(entry, oldest, floor).ok_or(Refusal::Needed)?;

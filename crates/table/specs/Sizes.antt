@@ -1,4 +1,4 @@
--- The sizes of a store, and its seats' places.
+-- The sizes of a store, which of them it may have, and a new store with them.
 use Rattle.std.specs.Prelude.{ℕ, ◌+◌, Bool, cond, ◌&&◌, Err, Result, nat_le, nat_lt}
 use Rattle.cards.specs.Versions.{Kept}
 use Rattle.cards.specs.declared.refusal.Refusal.{Refusal}

@@ -21,7 +21,7 @@ fn idle_seats() -> [Seat; SEATS]
     [Seat::idle(); SEATS]
 }
 
-// Rows that none has locked.
+// Free rows: nothing was put, and none is locked.
 fn free_rows() -> [Row; ENTRIES]
     ensures { result ≡ replicate 1024 free_row }
 {
@@ -29,7 +29,7 @@ fn free_rows() -> [Row; ENTRIES]
 }
 
 impl Table {
-    // With these sizes.
+    // A table with these sizes.
     fn open(letters: u16, marks: u16, pairs: u16) -> Table
         requires { letters + marks + pairs ≤ 1024 }
         ensures { (m : Kept) (places : ℕ) → view_table result m places ≡ opened letters marks pairs places m }
@@ -46,7 +46,7 @@ impl Table {
         }
     }
 
-    // With these sizes, or with no entries where no store may have them.
+    // A new table with these sizes, or with no entries where no store may have them.
     pub fn new(sizes: Sizes) -> Table
         ensures { (m : Kept) (places : ℕ) → view_table result m places ≡ begun sizes places m }
     {

@@ -4,7 +4,8 @@ use keepers::entry::ENTRIES;
 use rules::row::Row;
 use seats::seat::{SEATS, Seat};
 
-// The seats, the rows, of which the first count, one for each entry, and the last time given.
+// The sizes, the seats, the rows (one for each entry stands first; the others don't count), and the clock, which is the last time given.
+// The fields are open, so that seats and rows can be lent side by side.
 #[derive(Drop)]
 pub struct Table {
     pub counts: Counts,

@@ -33,7 +33,7 @@ impl Table {
     }
 
     // Entry for an entry that the table does not have.
-    pub fn entry(&self, entry: u16) -> Result<(), Refusal>
+    pub fn check_entry(&self, entry: u16) -> Result<(), Refusal>
         ensures { result ≡ entry_in (alone self.now) entry }
     {
         if entry >= self.size() {
@@ -64,7 +64,7 @@ impl Table {
         floor(&self.seats, self.ready())
     }
 
-    // Whether a card has no bit that an entry's kind may not bear.
+    // Whether a card fits its entry's kind; an entry past the last is judged as a pair.
     pub fn fits(&self, entry: u16, card: Card) -> bool
         ensures { result ≡ fits-at (alone self.now) entry card }
     {
