@@ -1,6 +1,6 @@
 // What a store answers.
 ghost use Rattle.std.specs.Prelude.{◌≡◌};
-ghost use Rattle.rules.specs.Words.{answer_told};
+ghost use Rattle.rules.specs.Words.{answer_number};
 
 use cards::card::Card;
 use cards::refusal::Refusal;
@@ -15,7 +15,7 @@ pub enum Answer {
 
 // 0 where the call is granted, else the refusal's number.
 pub fn number(answer: Result<Answer, Refusal>) -> u8
-    ensures { result ≡ (answer_told answer).number }
+    ensures { result ≡ answer_number answer }
 {
     match answer {
         Ok(_) => 0,

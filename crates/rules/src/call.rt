@@ -1,6 +1,6 @@
 // What a store is asked.
 ghost use Rattle.std.specs.Prelude.{◌≡◌};
-ghost use Rattle.rules.specs.Words.{call_told};
+ghost use Rattle.rules.specs.Words.{call_number};
 
 use cards::card::Card;
 
@@ -34,7 +34,7 @@ pub enum Call {
 impl Call {
     // Its place among the eleven, from 1. No `From`: a call is more than its number. Cases with fields have no numbers of their own.
     pub fn number(self) -> u8
-        ensures { result ≡ (call_told self).number }
+        ensures { result ≡ call_number self }
     {
         match self {
             Call::Proof { .. } => 1,
