@@ -73,11 +73,10 @@ def seats():
 
 
 def legend():
-    for y, words in [
-        (440, "The floor is the least of the ready point and the starts of the open proofs. A version may be collected where the next one"),
-        (457, "is of a time up to the floor: no proof, open or to come, can ask for it. Here that is the version of 1, since 3 is up to 4."),
-    ]:
-        yield text(20, y, words, size=12, fill=SOFT)
+    yield text(20, 440, "The floor is the least of the ready point and the starts of the open proofs. "
+               "A version may be collected where the next one", size=12, fill=SOFT)
+    yield text(20, 457, "is of a time up to the floor: no proof, open or to come, can ask for it. "
+               "Here that is the version of 1, since 3 is up to 4.", size=12, fill=SOFT)
 
 
 def main():
