@@ -1,6 +1,6 @@
 # Of the lines 'WHO WHAT ENTRIES VERSIONS OPERATIONS SUM NANOSECONDS' makes the table: the best time of each, in nanoseconds an operation,
-# and how many times as long as each keeper's each other side takes. A sum that differs from the store's is told, since then the sides did not
-# answer the same.
+# and how many times as long as each keeper's each other side takes. Where a side's reads or saves answer otherwise than the store's, it is
+# told.
 
 function key(who, what, entries, versions) {
     return who SUBSEP what SUBSEP entries SUBSEP versions
@@ -16,8 +16,12 @@ NF == 7 {
     each = $7 / $5
     if (!(k in best) || each < best[k])
         best[k] = each
-    if ($2 ~ /^read/)
+    # Not of collects, whose number depends on the time, and not of a database's saves, which answer nothing.
+    if ($2 ~ /^read/ || ($2 ~ /^save/ && $1 ~ /^(store|rust)-/)) {
+        if (k in average && average[k] != $6 / $5)
+            uneven[k] = 1
         average[k] = $6 / $5
+    }
 }
 
 function shown(who, what) {
@@ -80,7 +84,7 @@ END {
     for (k in average) {
         split(k, part, SUBSEP)
         own = key("store-linked", part[2], part[3], part[4])
-        if (own in average && average[own] != average[k])
-            print "bench: " part[1] " reads other cards than the store, in " part[2] " of " part[3] " entries and " part[4] " versions"
+        if (k in uneven || (own in average && average[own] != average[k]))
+            print "bench: " part[1] " answers otherwise than the store, in " part[2] " of " part[3] " entries and " part[4] " versions"
     }
 }

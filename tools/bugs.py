@@ -5,8 +5,7 @@ python3 tools/bugs.py [CRATE..] > TABLE tries those of these crates, or all. The
 away; there the bugs stand in the place of the crates' own must-fail edits, and `rt must-fail` checks each crate with one bug in it
 after the other. It ends with an error if a crate is still proved with a bug, or if a bug was not tried.
 
-It begins with what `rt check` kept of the crates in any copy on the machine, and else proves each first. With that kept, all bugs took
-43 minutes on four busy cores; a second run takes those that stayed the same, with the code they stand on, from what the first kept.
+It begins with what `rt check` kept of the crates in any copy on the machine, and else proves each first.
 """
 
 import glob
@@ -50,13 +49,13 @@ def function_at(folder, path, number):
 
 
 def refused_at(folder, told):
-    """Where a bug is refused: file, line and function, and the goal or, without one, what is said there."""
+    """Where a bug is refused: file and function, and the goal or, without one, what is said there. No line: all above would move it."""
     place = PLACE.search(told)
     if not place:
         return told.lstrip(": ")
     path, number, why = place[1], int(place[2]), place[3]
     name, goal = function_at(folder, path, number), GOAL.search(why)
-    return f"{path}:{number}" + (f", `{name}`" if name else "") + (f": `{goal[1] or goal[2]}`" if goal else f": {why}")
+    return path + (f", `{name}`" if name else "") + (f": `{goal[1] or goal[2]}`" if goal else f": {why}")
 
 
 def row_of(crate, name, said, folder):

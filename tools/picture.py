@@ -72,9 +72,11 @@ def seats():
     yield from seat(344, "seat 5", "a stamped edit", 8, ["took 8, all put:", "it waits for 7"], EDIT)
 
 
-def words():
-    yield text(20, 440, "The floor is the least of the ready point and the starts of the open proofs. A version may be collected where the next one", size=12, fill=SOFT)
-    yield text(20, 457, "is of a time up to the floor: no proof, open or to come, can ask for it. Here that is the version of 1, since 3 is up to 4.", size=12, fill=SOFT)
+def legend():
+    yield text(20, 440, "The floor is the least of the ready point and the starts of the open proofs. "
+               "A version may be collected where the next one", size=12, fill=SOFT)
+    yield text(20, 457, "is of a time up to the floor: no proof, open or to come, can ask for it. "
+               "Here that is the version of 1, since 3 is up to 4.", size=12, fill=SOFT)
 
 
 def main():
@@ -82,7 +84,7 @@ def main():
           'font-family="Helvetica, Arial, sans-serif">')
     print('<title>The versions of an entry over time, and who needs them</title>')
     print('<rect width="920" height="474" fill="#ffffff"/>')
-    for part in [times(), versions(), seats(), words()]:
+    for part in [times(), versions(), seats(), legend()]:
         print("\n".join(part))
     print("</svg>")
 

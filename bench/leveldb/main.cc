@@ -11,7 +11,6 @@
 
 #include <leveldb/db.h>
 #include <leveldb/options.h>
-#include <leveldb/write_batch.h>
 
 namespace {
 

@@ -47,9 +47,6 @@ pub enum Refusal {
     Waiting,
     Needed,
     Sizes,
-    Line,
-    Map,
-    Short,
-    Full,
+    Full = 17,
     Order,
 }

@@ -1,4 +1,4 @@
-//! The workloads of crates/bench_store over a store in plain Rust, written by itself after docs/RULES.md and docs/REFUSALS.md.
+//! The workloads of crates/bench_store over a store in plain Rust, written apart from it, after docs/RULES.md and docs/REFUSALS.md.
 mod card;
 mod keepers;
 mod store;
@@ -9,6 +9,7 @@ use std::hint::black_box;
 use std::time::Instant;
 use store::Store;
 
+// As in crates/bench_store; the databases' programs have those that they need.
 const ROUNDS: usize = 40;
 const LEAST: u64 = 5_000_000;
 const BATCHES: usize = 600;
