@@ -8,7 +8,7 @@ use Rattle.cards.specs.declared.card.Card.{Card}
 use Rattle.rules.specs.declared.call.Call.{Call}
 use Rattle.rules.specs.declared.call.Call.TheVariants as call
 use Rattle.scripts.specs.Words.{is_space, words, is_small_letter}
-use Rattle.scripts.specs.Lines.{Left, fit, plain, alone, read_of, write_of, call_of, read_words, read, ◌>>=◌}
+use Rattle.scripts.specs.Lines.{Left, fit, seat_or_entry, alone, read_of, write_of, call_of, read_words, read, ◌>>=◌}
 use Rattle.scripts.specs.Texts.{spaced, card_text, call_text}
 use Rattle.scripts.proofs.Numerals.{number_back}
 use Rattle.scripts.proofs.Added.{Adds, number_adds, last_number, spaced_length}
@@ -30,7 +30,7 @@ Holdable (call.Collect entry) = entry < 65536
 
 -- ---- the numbers of a call
 
-number_read : (n : ℕ) (more : List (List ℕ)) (place : ℕ) → n < 65536 → fit plain (at (decimal n ∷ more) place) ≡ Ok n
+number_read : (n : ℕ) (more : List (List ℕ)) (place : ℕ) → n < 65536 → fit seat_or_entry (at (decimal n ∷ more) place) ≡ Ok n
 number_read n more place h = rw (number_back n h 65535 (omega arith))
 
 alone_read : (n place : ℕ) → n < 65536 → alone (at (decimal n ∷ []) place) ≡ Ok n

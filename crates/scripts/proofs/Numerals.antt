@@ -57,7 +57,7 @@ module _ (n : ℕ) (small : n < 65536) where
   valued : read.value 0 (decimal n) ≡ n
   valued = value_told 0 (decimal n) numeral.1 ∙ (decimal_is_IsNumeral n (omega arith)).1
 
-  digits_back : (most : ℕ) → n ≤ most → read.decimal most (decimal n) ≡ Some n
+  digits_back : (most : ℕ) → n ≤ most → read.from_decimal most (decimal n) ≡ Some n
   digits_back most le = rw (not_zero_led, valued, le-leb n most le)
 
   pub number_back : (most : ℕ) → n ≤ most → read.number most (decimal n) ≡ Some n

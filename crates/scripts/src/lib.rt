@@ -8,5 +8,5 @@ pub mod running;
 mod script;
 mod taking;
 mod text;
-pub mod words;
+mod words;
 pub mod writing;

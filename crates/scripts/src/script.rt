@@ -1,5 +1,5 @@
 // The lines of a script, cut off one by one.
-ghost use Rattle.std.specs.Prelude.{◌≡◌, ℕ, ◌<◌, ◌∷◌, length};
+ghost use Rattle.std.specs.Prelude.{◌≡◌, ◌<◌, ◌∷◌, length};
 ghost use Rattle.std.specs.List.{position, count_by};
 ghost use Rattle.scripts.specs.Scripts.{is_end, lines};
 

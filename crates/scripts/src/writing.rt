@@ -31,7 +31,7 @@ fn letter_of(call: Call) -> char
 }
 
 // The numbers of a call.
-fn numbers(line: &mut Line, call: Call)
+fn numbers_of(line: &mut Line, call: Call)
     requires { length line.old.bytes + 58 ≤ most_bytes }
     ensures { line.new.bytes ≡ line.old.bytes ++ numbers_of call }
 {
@@ -63,7 +63,7 @@ fn written(call: Call) -> Line
 {
     let mut line = Line::new();
     byte(&mut line, letter_of(call));
-    numbers(&mut line, call);
+    numbers_of(&mut line, call);
     line
 }
 
