@@ -1,5 +1,5 @@
 -- The line of a call is read back as that call.
-use Rattle.std.proofs.Common.{◌≡◌, ℕ, ◌+◌, ◌<◌, true, false, cond, List, [], ◌∷◌, ◌++◌, length, Result, Ok, Err, decimal, refl, sym, ap, ◌∙◌, arith, length-append}
+use Rattle.std.proofs.Common.{◌≡◌, ℕ, ◌+◌, ◌<◌, true, false, cond, List, [], ◌∷◌, ◌++◌, length, Ok, Err, decimal, refl, ap, ◌∙◌, arith, length-append}
 use Rattle.std.proofs.lemmas.Bool.{le-ltb}
 use Rattle.std.proofs.lemmas.Bool.Decides.{nat_tests}
 use Rattle.std.proofs.lemmas.List.Elements.{All-cons, All-nil}
@@ -90,7 +90,3 @@ read_back (call.Settle seat) h = one_back 116 seat call.Settle refl h (λ _. ref
 read_back (call.Drop seat) h = one_back 100 seat call.Drop refl h (λ _. refl)
 read_back (call.End seat) h = one_back 113 seat call.End refl h (λ _. refl)
 read_back (call.Collect entry) h = one_back 99 entry call.Collect refl h (λ _. refl)
-
--- two calls have one text only if they are one call
-pub call_text_once : (c d : Call) → Holdable c → Holdable d → call_text c ≡ call_text d → c ≡ d
-call_text_once c d h k e = let same : ◌≡◌ {A = Result Call ℕ} (Ok c) (Ok d) = sym (read_back c h) ∙ ap read e ∙ read_back d k in cc

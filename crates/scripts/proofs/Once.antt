@@ -1,5 +1,5 @@
 -- A line that is read to a call is the line that is written for it, so that each call has one line.
-use Rattle.std.proofs.Common.{◌≡◌, ℕ, ◌+◌, ◌*◌, ◌/◌, ◌%◌, ◌<◌, ◌≤◌, Bool, true, false, cond, ◌==◌, List, [], ◌∷◌, ◌++◌, length, drop, ℤ, is_some, nat_lt, IfOk, Option, None, Some, Result, Ok, Err, decimal, refl, sym, ap, ◌∙◌, subst, append-nil, arith}
+use Rattle.std.proofs.Common.{◌≡◌, ℕ, ◌+◌, ◌*◌, ◌/◌, ◌%◌, ◌<◌, ◌≤◌, Bool, true, false, cond, ◌==◌, List, [], ◌∷◌, ◌++◌, length, drop, ℤ, is_some, nat_lt, IfOk, Option, None, Some, Result, Ok, Err, ok_or, decimal, refl, sym, ap, ◌∙◌, subst, append-nil, arith}
 use Rattle.std.specs.Fmt.{signed_decimal}
 use Rattle.std.specs.List.{join_with_byte}
 use Rattle.std.proofs.lemmas.Bool.{cond_both, eqb-true, eqb-false}
@@ -10,7 +10,7 @@ use Rattle.rules.specs.declared.call.Call.{Call}
 use Rattle.rules.specs.declared.call.Call.TheVariants as call
 use Rattle.scripts.specs.Words.{is_space, words, letter}
 use Rattle.scripts.specs.Numbers.{field}
-use Rattle.scripts.specs.Lines.{Left, or_place, fit, next, end_of, end, seat_or_entry, bit_map, alone, read_of, fit_if, next_if, bit_of, card_of, write_of, call_of, all_of, read_words, read, ◌>>=◌}
+use Rattle.scripts.specs.Lines.{Left, fit, next, end_of, end, seat_or_entry, bit_map, alone, read_of, fit_if, next_if, bit_of, card_of, write_of, call_of, all_of, read_words, read, ◌>>=◌}
 use Rattle.scripts.specs.Texts.{spaced, spaced_field, card_text, call_text}
 use Rattle.scripts.proofs.CardBack.{at, map_sum}
 use Rattle.scripts.proofs.OneWord.{number_once, field_once, letter_once}
@@ -43,7 +43,7 @@ steps : {A B : Type 0} (r : Result A ℕ) (f : A → Result B ℕ) (y : B) → (
 steps (Ok x) f y e = (x, refl, e)
 steps (Err place) f y e = cc
 
-placed : {A : Type 0} (o : Option A) (place : ℕ) (x : A) → or_place o place ≡ Ok x → o ≡ Some x
+placed : {A : Type 0} (o : Option A) (place : ℕ) (x : A) → ok_or o place ≡ Ok x → o ≡ Some x
 placed (Some x) place y e = ap Some (same_Ok x y e)
 placed None place y e = cc
 

@@ -1,5 +1,5 @@
 -- What a line of a script says: a call, or the place of the first word that does not fit.
-use Rattle.std.specs.Prelude.{ℕ, ◌+◌, ◌/◌, ◌%◌, Bool, cond, List, [], ◌∷◌, length, ℤ, Some, None, Ok, Err, Option, Result, option_and_then, ◌==◌, nat_lt}
+use Rattle.std.specs.Prelude.{ℕ, ◌+◌, ◌/◌, ◌%◌, Bool, cond, List, [], ◌∷◌, length, ℤ, Some, None, Ok, Err, Option, Result, option_and_then, ok_or, ◌==◌, nat_lt}
 use Rattle.cards.specs.declared.card.Card.{Card}
 use Rattle.rules.specs.declared.call.Call.{Call}
 use Rattle.rules.specs.declared.call.Call.TheVariants as call
@@ -16,14 +16,9 @@ abbrev pub first : List (List ℕ) → Option (List ℕ)
 first [] = None
 first (word ∷ more) = Some word
 
--- a value that is there, else the place
-abbrev pub or_place : {A : Type 0} → Option A → ℕ → Result A ℕ
-or_place (Some x) place = Ok x
-or_place None place = Err place
-
 -- what the next word stands for, or its place if it is missing or does not fit
 abbrev pub fit : {A : Type 0} → (List ℕ → Option A) → Left → Result A ℕ
-fit f l = or_place (option_and_then f (first l.words)) l.place
+fit f l = ok_or (option_and_then f (first l.words)) l.place
 
 -- what is left behind the next of some words, with its place
 abbrev next_of : List (List ℕ) → ℕ → Left

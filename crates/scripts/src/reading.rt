@@ -93,10 +93,12 @@ fn call_of(letter: char, words: &mut Cursor<'_>) -> Result<Call, u32>
     }
 }
 
-// The call of a line, or the place of the first word that does not fit, from 1; 0 for a line that is too long.
+// The call of a line, or the place of the first word that does not fit, from 1; 0 for a line that is too long. No call is
+// read from another line than the one that is written for it.
 #[tactic(auto, unfolding(crate::specs::Lines::read_words))]
-fn call_in(line: &[u8]) -> Result<Call, u32>
-    ensures { result ≡ read line.now }
+pub fn read_line(line: &[u8]) -> Result<Call, u32>
+    ensures answer { result ≡ read line.now }
+    ensures line { IfOk result (λ c. line.now ≡ call_text c) }
 {
     if line.len() > LONGEST {
         return Err(0);
@@ -104,13 +106,4 @@ fn call_in(line: &[u8]) -> Result<Call, u32>
     let mut words = Cursor::new(line);
     let letter = words.letter()?;
     call_of(letter, &mut words)
-}
-
-// The same; and no call is read from another line than the one that is written for it.
-#[tactic(auto, using(crate::proofs::Once::answer_once))]
-pub fn read_line(line: &[u8]) -> Result<Call, u32>
-    ensures answer { result ≡ read line.now }
-    ensures line { IfOk result (λ c. line.now ≡ call_text c) }
-{
-    call_in(line)
 }

@@ -1,9 +1,9 @@
 // Reading the words of a line, one by one.
-ghost use Rattle.std.specs.Prelude.{◌≡◌, ◌+◌, ◌≤◌, length, IfSome};
+ghost use Rattle.std.specs.Prelude.{◌≡◌, ◌+◌, ◌≤◌, length, IfSome, option_map};
 ghost use Rattle.scripts.specs.Words.{letter};
 ghost use Rattle.scripts.specs.Numbers.{number, field};
 ghost use Rattle.scripts.specs.Lines.{first, fit, next, end, fit_if, next_if, all_of};
-ghost use Rattle.scripts.specs.View.{bytes_in, HasKind, left_of};
+ghost use Rattle.scripts.specs.View.{bytes_of, HasKind, left_of};
 
 use crate::cursor::Cursor;
 use crate::numbers;
@@ -23,7 +23,7 @@ impl<'a> Cursor<'a> {
 
     // The next word, if there is one.
     pub(crate) fn word(&mut self) -> Option<Word<'a>>
-        ensures word { bytes_in result ≡ first (left_of self.old).words }
+        ensures word { option_map bytes_of result ≡ first (left_of self.old).words }
         ensures kind { IfSome result HasKind }
         ensures rest { left_of self.new ≡ next (left_of self.old) }
     {

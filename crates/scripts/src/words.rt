@@ -1,8 +1,9 @@
 // The words of a line.
 ghost use Rattle.std.specs.Prelude.{◌≡◌, ◌+◌, ◌<◌, ◌≤◌, ◌∷◌, length};
-ghost use Rattle.std.specs.List.{position};
-ghost use Rattle.scripts.specs.Words.{is_space, words, words_in, most_words, all_digits};
+ghost use Rattle.scripts.specs.Words.{words, words_in, most_words, all_digits};
 ghost use Rattle.scripts.specs.View.{bytes_of, HasKind};
+
+use crate::bytes::first_at;
 
 // A word of a line: a small letter alone, digits with perhaps a minus before them, or neither. Each holds its bytes of
 // the line: what a number may be depends on where it stands.
@@ -37,13 +38,6 @@ pub(crate) fn kind_of(word: &[u8]) -> Word<'_>
     }
 }
 
-// Where the first space is.
-fn first_space(line: &[u8]) -> Option<usize>
-    ensures { result ≡ position is_space line.now }
-{
-    line.iter().position(|byte| *byte == b' ')
-}
-
 // The first word of some, and what stands behind its space, if there is one. A space at a line's end has an empty word behind it, so no
 // bytes left and no word left are two things; behind the last end of a script there is no line.
 #[tactic(auto, using(crate::proofs::Parts::cut_at, crate::proofs::Parts::uncut))]
@@ -51,7 +45,7 @@ pub(crate) fn cut(line: &[u8]) -> (&[u8], Option<&[u8]>)
     ensures parts { words line.now ≡ result.0.now ∷ words_in result.1 }
     ensures less { most_words result.1 ≤ length line.now }
 {
-    match first_space(line) {
+    match first_at(line, b' ') {
         Some(at) => (&line[..at], Some(&line[at + 1..])),
         None => (line, None),
     }

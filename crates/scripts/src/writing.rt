@@ -57,23 +57,16 @@ fn numbers_of(line: &mut Line, call: Call)
     }
 }
 
-// The letter and the numbers of a call.
-fn written(call: Call) -> Line
-    ensures { result.bytes ≡ call_text call }
-{
-    let mut line = Line::new();
-    byte(&mut line, letter_of(call));
-    numbers_of(&mut line, call);
-    line
-}
-
 // The line of a call, without its end. It is read as that call.
 #[tactic(auto, using(crate::proofs::Back::read_back))]
 pub fn call_line(call: Call) -> Line
     ensures text { result.bytes ≡ call_text call }
     ensures back { read result.bytes ≡ Ok call }
 {
-    written(call)
+    let mut line = Line::new();
+    byte(&mut line, letter_of(call));
+    numbers_of(&mut line, call);
+    line
 }
 
 // What a granted call gives.
