@@ -3,7 +3,11 @@
 # A script under examples/, and where the C host is built.
 SCRIPT = examples/two-designers.script
 HOST = target/host
-C = gcc -std=c11 -O2 -Wall -Wextra -Werror
+CC = gcc
+CFLAGS = -std=c11 -O2 -Wall -Wextra -Werror
+
+# The store's library, and the toolchain's, which has the one name that it leaves open.
+LIBRARIES = crates/nalzeiku/out/libnalzeiku.a "$$(dirname "$$(rt doc)")/c/liblibc_c.a"
 
 # Proves what the program needs, builds it, and runs it on a script: each line beside its answer. Then it holds what the
 # program writes to the answers that are kept beside the script.
@@ -19,16 +23,16 @@ test:
 	sh tools/tryout.sh
 	$(MAKE) host-test
 
-# The C program over the static library. The toolchain's liblibc_c.a has the one name that the library leaves open.
+# The C program over the static library.
 host:
 	cd crates/nalzeiku && rt lib
 	mkdir -p $(HOST)
-	$(C) host/run.c crates/nalzeiku/out/libnalzeiku.a "$$(dirname "$$(rt doc)")/c/liblibc_c.a" -o $(HOST)/run
+	$(CC) $(CFLAGS) host/run.c $(LIBRARIES) -o $(HOST)/run
 	$(HOST)/run examples/save.script | cmp - examples/save.answers
 
 # The limits of the library, from C.
 host-test: host
-	$(C) -Wl,--wrap=malloc host/test.c crates/nalzeiku/out/libnalzeiku.a "$$(dirname "$$(rt doc)")/c/liblibc_c.a" -o $(HOST)/test
+	$(CC) $(CFLAGS) -Wl,--wrap=malloc host/test.c $(LIBRARIES) -o $(HOST)/test
 	$(HOST)/test
 
 # What the store costs beside other stores.

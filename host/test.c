@@ -6,10 +6,10 @@
 #include <stdlib.h>
 #include <string.h>
 
-/* What stands in memory before a call, to see which bytes a call has touched. */
-enum { CANARY = 0xA5, SPARE = 64, ROOM = NALZEIKU_SCRIPT * NALZEIKU_LINE };
+/* The byte that stands in memory before a call; how many stand behind the most room; and that room. */
+enum { UNTOUCHED = 0xA5, BEHIND = 64, ROOM = NALZEIKU_SCRIPT * NALZEIKU_LINE };
 
-static uint8_t memory[ROOM + SPARE];
+static uint8_t memory[ROOM + BEHIND];
 static int failures;
 static int checks;
 
@@ -34,7 +34,7 @@ void *__wrap_malloc(size_t size)
 
 static int64_t run(const void *script, size_t script_len, size_t room)
 {
-    memset(memory, CANARY, sizeof memory);
+    memset(memory, UNTOUCHED, sizeof memory);
     return nalzeiku_run(script, script_len, memory, room);
 }
 
@@ -42,7 +42,7 @@ static int64_t run(const void *script, size_t script_len, size_t room)
 static bool stays_from(size_t at)
 {
     for (; at < sizeof memory; at++)
-        if (memory[at] != CANARY)
+        if (memory[at] != UNTOUCHED)
             return false;
     return true;
 }
@@ -92,7 +92,7 @@ static void limits(void)
         same = memcmp(memory + 7 * line, "? 14 1\n", 7) == 0;
     check(same && stays_from(7 * NALZEIKU_SCRIPT), "4,096 empty lines");
     declines(longest, NALZEIKU_SCRIPT, ROOM - 1, NALZEIKU_SHORT, "one byte short of their room");
-    declines(longest, NALZEIKU_SCRIPT + 1, ROOM + SPARE, NALZEIKU_SIZES, "4,097 bytes");
+    declines(longest, NALZEIKU_SCRIPT + 1, ROOM + BEHIND, NALZEIKU_SIZES, "4,097 bytes");
     declines(longest, NALZEIKU_SCRIPT + 1, 0, NALZEIKU_SIZES, "4,097 bytes and no room: the script is told first");
     memset(longest, 'p', sizeof longest);
     check(run(longest, NALZEIKU_SCRIPT, NALZEIKU_LINE) == 7 && memcmp(memory, "? 14 0\n", 7) == 0 && stays_from(7),

@@ -1,15 +1,17 @@
 #!/bin/sh
-# Tries the try-out program on whole inputs: the examples, and what a file would only repeat. The gate has built it.
+# Tries the try-out program on whole inputs: the examples, and long ones, made here, that are one line many times.
+# The gate has built it.
 set -eu
 cd "$(dirname "$0")/.."
 program=crates/tryout/out/tryout
 [ -x "$program" ] || (cd crates/tryout && rt run < stdin > /dev/null)
 want=$(mktemp)
-trap 'rm -f "$want"' EXIT
+got=$(mktemp)
+trap 'rm -f "$want" "$got"' EXIT
 
 # The standard input is answered by a file.
 answers() {
-    if ! "$program" | cmp -s - "$1"; then
+    if ! "$program" > "$got" || ! cmp -s "$got" "$1"; then
         echo "tryout: $2"
         exit 1
     fi

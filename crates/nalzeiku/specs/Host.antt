@@ -1,11 +1,11 @@
--- What a host of another language is told.
+-- What a host in C is told.
 use Rattle.std.specs.Prelude.{ℕ, zero, suc, Bool, true, false, cond, List, length, ℤ, pos, negsuc, Ok, Err, Result, nat_le}
 use Rattle.cards.specs.Refusals.{number_of}
 use Rattle.cards.specs.declared.refusal.Refusal.{Refusal}
 use Rattle.cards.specs.declared.refusal.Refusal.TheVariants as why
-use Rattle.scratch.specs.Scratch.{scratch_result, scratch_memory}
+use Rattle.scratch.specs.Scratch.{scratch, script_result, scratch_memory}
 
--- the number below 0
+-- a number with a minus before it
 abbrev pub minus : ℕ → ℤ
 minus zero = pos 0
 minus (suc n) = negsuc n
@@ -13,7 +13,7 @@ minus (suc n) = negsuc n
 -- a number of bytes as it is; a refusal as its number below 0
 abbrev pub signed : Result ℕ Refusal → ℤ
 signed (Ok n) = pos n
-signed (Err why) = minus (number_of why)
+signed (Err refusal) = minus (number_of refusal)
 
 -- a script may be run by a host: it has 4,096 bytes at most
 abbrev pub suits : List ℕ → Bool
@@ -21,9 +21,9 @@ suits script = nat_le (length script) 4096
 
 -- what is answered over memory of n bytes: how many bytes are written, -13 for a longer script, or -16 where the memory has not 64 bytes for each line
 abbrev pub host_answer : List ℕ → ℕ → ℤ
-host_answer script n = cond (suits script) (signed (scratch_result script n)) (signed (Err why.Sizes))
+host_answer script n = cond (suits script) (signed (script_result scratch script n)) (signed (Err why.Sizes))
 
--- a refusal
+-- an answer below 0, which is a refusal
 abbrev pub is_refused : ℤ → Bool
 is_refused (pos n) = false
 is_refused (negsuc n) = true

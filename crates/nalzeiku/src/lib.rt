@@ -13,7 +13,7 @@ use std::alloc::Global;
 // The most bytes of a script.
 const MOST_SCRIPT: usize = 4096;
 
-// A refusal, for a host.
+// What a host in C is told of a refusal: its number below 0.
 fn refused(why: Refusal) -> i64
     ensures { result ≡ minus (number_of why) }
 {
@@ -22,6 +22,7 @@ fn refused(why: Refusal) -> i64
 
 // Runs a script on a new store, and writes the answers to its lines to the front of memory. Answers how many bytes were
 // written; or -13 for a script of more than 4,096 bytes, or -16 where the memory has not 64 bytes for each line.
+// In C a slice is a pointer and a length, and alloc is no argument: it is asked for by the type of the keeper's memory, and gives none.
 #[tactic(auto, using(scratch::proofs::Founded::scratch_law))]
 #[unsafe(no_mangle)]
 pub extern "C" fn nalzeiku_run(alloc: Global, script: &[u8], memory: &mut [u8]) -> i64

@@ -3,11 +3,10 @@ use Rattle.std.proofs.Common.{◌≡◌, ℕ, List, [], ◌∙◌, refl, arith}
 use Rattle.cards.specs.Versions.{Kept, Empty}
 use Rattle.cards.proofs.Counts.{held_none}
 use Rattle.rules.specs.Places.{opened}
-use Rattle.rules.specs.Runs.{Reached, new}
-use Rattle.rules.proofs.Law.{law_holds_lem}
+use Rattle.rules.specs.Runs.{new}
 use Rattle.rules.proofs.Places.{new_stores_stand_lem}
-use Rattle.rules.proofs.Runs.{play_reached}
 use Rattle.scripts.specs.Scripts.{script_calls}
+use Rattle.scripts.proofs.Answered.{lawful}
 use Rattle.store.specs.View.{new_store}
 use Rattle.store.proofs.Founding.{new_over_none}
 use Rattle.scratch.specs.Scratch.{scratch, ScratchLaw}
@@ -17,6 +16,4 @@ pub founded : (p : ℕ) (m : Kept) → p ≡ 8 → Empty m → new_store (record
 founded p m e none = new_over_none (record { letters = 2; marks = 1; pairs = 1 }) p m (held_none m none) ∙ (λ i. opened 2 1 1 (e i) (λ entry time. none entry time i))
 
 pub scratch_law : (script : List ℕ) (n : ℕ) → ScratchLaw script n
-scratch_law script n =
-    let begin : Reached [] scratch = new (new_stores_stand_lem 2 1 1 8 _ (omega arith) (λ e t. refl)) in
-    law_holds_lem _ _ (play_reached (script_calls script n) [] scratch begin)
+scratch_law script n = (lawful scratch _ (script_calls script n) refl [] (new (new_stores_stand_lem 2 1 1 8 _ (omega arith) (λ e t. refl)))).1

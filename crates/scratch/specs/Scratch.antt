@@ -1,19 +1,15 @@
 -- The new store on which a script is run: 2 letters, 1 mark and 1 pair, over a linked keeper of 8 places that holds nothing.
-use Rattle.std.specs.Prelude.{ℕ, List, [], length, None, Result}
-use Rattle.cards.specs.declared.refusal.Refusal.{Refusal}
+use Rattle.std.specs.Prelude.{ℕ, List, [], length, None}
 use Rattle.rules.specs.Law.{Law}
 use Rattle.rules.specs.Places.{opened}
 use Rattle.rules.specs.Runs.{events, play}
 use Rattle.rules.specs.State.{State}
-use Rattle.scripts.specs.Scripts.{script_calls, script_answers, script_text, script_result, written}
+use Rattle.scripts.specs.Scripts.{script_calls, script_answers, script_text, written}
+pub use Rattle.scripts.specs.Scripts.{script_result}
 
 -- its state
 abbrev pub scratch : State
 scratch = opened 2 1 1 8 (λ entry time. None)
-
--- how many bytes are written for a script over memory of n bytes, or Short
-abbrev pub scratch_result : List ℕ → ℕ → Result ℕ Refusal
-scratch_result script n = script_result scratch script n
 
 -- the memory after a script is run
 abbrev pub scratch_memory : List ℕ → List ℕ → List ℕ

@@ -2,7 +2,7 @@
 #![tactic(auto)]
 
 ghost use Rattle.std.specs.Prelude.{◌≡◌, length};
-ghost use Rattle.scratch.specs.Scratch.{scratch, scratch_result, scratch_memory, ScratchLaw};
+ghost use Rattle.scratch.specs.Scratch.{scratch, script_result, scratch_memory, ScratchLaw};
 ghost use Rattle.store.specs.View.{view};
 ghost use Rattle.linked.specs.View.{linked_kept, linked_places};
 
@@ -12,25 +12,28 @@ use scripts::running::run_script;
 use std::alloc::Global;
 use store::{Sizes, Store};
 
-// The entries of the store.
-const SIZES: Sizes = Sizes {
-    letters: 2,
-    marks: 1,
-    pairs: 1,
-};
+// How many entries of each kind the store has.
+fn sizes() -> Sizes
+    ensures { result ≡ record { letters = 2; marks = 1; pairs = 1 } }
+{
+    Sizes {
+        letters: 2,
+        marks: 1,
+        pairs: 1,
+    }
+}
 
 // The new store.
-#[tactic(auto, using(crate::proofs::Founded::founded))]
 fn scratch_store(alloc: Global) -> Store<Linked>
     ensures { view linked_kept linked_places result ≡ scratch }
 {
-    Store::new(Linked::small(alloc), SIZES)
+    Store::new(Linked::small(alloc), sizes())
 }
 
 // Runs a script on a new store, and writes the answers to its lines as `run_script` does. Nothing is allocated.
 #[tactic(auto, using(crate::proofs::Founded::scratch_law))]
 pub fn run_on_scratch(alloc: Global, script: &[u8], memory: &mut [u8]) -> Result<usize, Refusal>
-    ensures result { result ≡ scratch_result script.now (length memory.old) }
+    ensures result { result ≡ script_result scratch script.now (length memory.old) }
     ensures memory { memory.new ≡ scratch_memory script.now memory.old }
     ensures law { ScratchLaw script.now (length memory.old) }
 {

@@ -9,7 +9,7 @@ use Rattle.rules.specs.State.{State}
 use Rattle.rules.specs.declared.call.Call.{Call}
 use Rattle.store.specs.Runs.{LawfulRun}
 use Rattle.scripts.specs.Lines.{read}
-use Rattle.scripts.specs.Scripts.{lines, readings, calls_in, told, moved, line_text, most_bytes}
+use Rattle.scripts.specs.Scripts.{lines, readings, calls_in, answer_lines, moved, line_text, most_bytes}
 
 -- the first of some lines, and the rest
 moved_first : (s : State) (r : Result Call ℕ) (said : List (Result Call ℕ)) → play s (calls_in (r ∷ said)) ≡ play (moved s r) (calls_in said)
@@ -18,11 +18,11 @@ moved_first s (Err place) said = refl
 
 -- all that is written for lines
 abbrev pub whole_text : State → List (Result Call ℕ) → List ℕ
-whole_text s said = told said (answers s (calls_in said))
+whole_text s said = answer_lines said (answers s (calls_in said))
 
-told_first : (s : State) (r : Result Call ℕ) (said : List (Result Call ℕ)) → whole_text s (r ∷ said) ≡ line_text s r ++ whole_text (moved s r) said
-told_first s (Ok c) said = refl
-told_first s (Err place) said = refl
+text_first : (s : State) (r : Result Call ℕ) (said : List (Result Call ℕ)) → whole_text s (r ∷ said) ≡ line_text s r ++ whole_text (moved s r) said
+text_first s (Ok c) said = refl
+text_first s (Err place) said = refl
 
 -- a text written at a place of memory
 module _ (m m' text : List ℕ) (at : ℕ) (l : at ≤ length m) (e : m' ≡ take at m ++ (text ++ drop (at + length text) m)) where
@@ -60,7 +60,7 @@ module _ (s : State) (script old : List ℕ) where
       let state : play w (calls_in (readings more)) ≡ play v (calls_in (readings rest)) =
       ap (λ (x : State). play x (calls_in (readings more))) p ∙ sym (moved_first v (read line) (readings more)) ∙ ap (λ (x : List (Result Call ℕ)). play v (calls_in x)) (sym said) in
       let later : text ++ whole_text w (readings more) ≡ whole_text v (readings rest) =
-      (λ i. q i ++ whole_text (p i) (readings more)) ∙ sym (told_first v (read line) (readings more)) ∙ ap (whole_text v) (sym said) in
+      (λ i. q i ++ whole_text (p i) (readings more)) ∙ sym (text_first v (read line) (readings more)) ∙ ap (whole_text v) (sym said) in
       let all : take (at + length text) m' ++ whole_text w (readings more) ≡ take at m ++ whole_text v (readings rest) =
       ap (λ (x : List ℕ). x ++ whole_text w (readings more)) (take_written m m' text at l f) ∙ append_assoc (take at m) text (whole_text w (readings more)) ∙ ap (λ (x : List ℕ). take at m ++ x) later in
       let behind : drop (at + length text) m' ≡ drop (at + length text) old = drop_written m m' text at l f ∙ sym (drop-drop (length text) at m) ∙ ap (drop (length text)) h.2 ∙ drop-drop (length text) at old in

@@ -1,5 +1,5 @@
 -- The line of a call is read back as that call.
-use Rattle.std.proofs.Common.{◌≡◌, ℕ, ◌+◌, ◌<◌, true, false, cond, List, [], ◌∷◌, ◌++◌, length, Result, Ok, Err, decimal, refl, sym, ap, ◌∙◌, arith, length-append}
+use Rattle.std.proofs.Common.{◌≡◌, ℕ, ◌+◌, ◌<◌, true, false, cond, List, [], ◌∷◌, ◌++◌, length, Ok, Err, decimal, refl, ap, ◌∙◌, arith, length-append}
 use Rattle.std.proofs.lemmas.Bool.{le-ltb}
 use Rattle.std.proofs.lemmas.Bool.Decides.{nat_tests}
 use Rattle.std.proofs.lemmas.List.Elements.{All-cons, All-nil}
@@ -8,7 +8,7 @@ use Rattle.cards.specs.declared.card.Card.{Card}
 use Rattle.rules.specs.declared.call.Call.{Call}
 use Rattle.rules.specs.declared.call.Call.TheVariants as call
 use Rattle.scripts.specs.Words.{is_space, words, is_small_letter}
-use Rattle.scripts.specs.Lines.{Left, fit, plain, alone, read_of, write_of, call_of, read_words, read, ◌>>=◌}
+use Rattle.scripts.specs.Lines.{Left, fit, seat_or_entry, alone, read_of, write_of, call_of, read_words, read, ◌>>=◌}
 use Rattle.scripts.specs.Texts.{spaced, card_text, call_text}
 use Rattle.scripts.proofs.Numerals.{number_back}
 use Rattle.scripts.proofs.Added.{Adds, number_adds, last_number, spaced_length}
@@ -30,7 +30,7 @@ Holdable (call.Collect entry) = entry < 65536
 
 -- ---- the numbers of a call
 
-number_read : (n : ℕ) (more : List (List ℕ)) (place : ℕ) → n < 65536 → fit plain (at (decimal n ∷ more) place) ≡ Ok n
+number_read : (n : ℕ) (more : List (List ℕ)) (place : ℕ) → n < 65536 → fit seat_or_entry (at (decimal n ∷ more) place) ≡ Ok n
 number_read n more place h = rw (number_back n h 65535 (omega arith))
 
 alone_read : (n place : ℕ) → n < 65536 → alone (at (decimal n ∷ []) place) ≡ Ok n
@@ -90,7 +90,3 @@ read_back (call.Settle seat) h = one_back 116 seat call.Settle refl h (λ _. ref
 read_back (call.Drop seat) h = one_back 100 seat call.Drop refl h (λ _. refl)
 read_back (call.End seat) h = one_back 113 seat call.End refl h (λ _. refl)
 read_back (call.Collect entry) h = one_back 99 entry call.Collect refl h (λ _. refl)
-
--- two calls have one text only if they are one call
-pub call_text_once : (c d : Call) → Holdable c → Holdable d → call_text c ≡ call_text d → c ≡ d
-call_text_once c d h k e = let same : ◌≡◌ {A = Result Call ℕ} (Ok c) (Ok d) = sym (read_back c h) ∙ ap read e ∙ read_back d k in cc

@@ -3,9 +3,10 @@ use Rattle.std.proofs.Common.{◌≡◌, ℕ, zero, suc, ◌+◌, ◌-◌, ◌<�
 use Rattle.std.specs.List.{position, position_or_len, onto_first, count_by, slice_get}
 use Rattle.std.proofs.lemmas.List.{take_all}
 use Rattle.std.proofs.lemmas.Bool.{ltb-true, ltb-false, ne_eqb, eq-eqb}
+use Rattle.std.proofs.lemmas.Option.{cond_some}
 use Rattle.std.proofs.lemmas.List.Sums.{sum_by-cons}
 use Rattle.scripts.specs.Scripts.{is_end, lines}
-use Rattle.scripts.proofs.Parts.{found, missed}
+use Rattle.scripts.proofs.Parts.{missed}
 
 abbrev end_at : List ℕ → ℕ
 end_at s = position_or_len is_end s
@@ -37,7 +38,7 @@ line_alone b (c ∷ s) l = alone_step (is_end b) b (c ∷ s) (end_at (c ∷ s)) 
 -- the same, as the search for the end tells it
 pub cut_at : (s : List ℕ) (at : ℕ) → position is_end s ≡ Some at → lines s ≡ take at s ∷ lines (take (length s - (at + 1)) (drop (at + 1) s))
 cut_at s at e =
-    let f = found at (end_at s) (ltb (end_at s) (length s)) e in
+    let f = cond_some (ltb (end_at s) (length s)) (end_at s) at e in
     let parts = subst (λ (n : ℕ). lines s ≡ take n s ∷ lines (drop (n + 1) s)) f.1 (line_at s (ltb-true _ _ f.0)) in
     let all : take (length s - (at + 1)) (drop (at + 1) s) ≡ drop (at + 1) s = take_all _ (drop (at + 1) s) (omega (arith, length-drop (at + 1) s)) in
     rw all parts

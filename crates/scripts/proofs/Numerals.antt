@@ -1,12 +1,12 @@
 -- The numbers that are written are read back.
-use Rattle.std.proofs.Common.{◌≡◌, ℕ, suc, ◌+◌, ◌-◌, ◌*◌, ◌<◌, ◌≤◌, Bool, true, false, ◌&&◌, List, [], ◌∷◌, length, get_or, ℤ, pos, negsuc, nat_lt, FitsSigned, Some, decimal, All, w16, refl, ap, ◌∙◌, ⊎_elim, eq-zero-or-pos, arith}
+use Rattle.std.proofs.Common.{◌≡◌, ℕ, suc, ◌+◌, ◌-◌, ◌*◌, ◌<◌, ◌≤◌, true, false, ◌&&◌, List, [], ◌∷◌, length, get_or, ℤ, pos, negsuc, nat_lt, FitsSigned, Some, decimal, All, w16, refl, ap, ◌∙◌, ⊎_elim, eq-zero-or-pos, arith}
 use Rattle.std.specs.Fmt.{signed_decimal}
 use Rattle.std.specs.Str.Parse.{AllDigits, IsNumeral, digits_value_after}
 use Rattle.std.specs.Char.{digit_value}
 use Rattle.std.proofs.lemmas.Fmt.{decimal_is_IsNumeral, decimal_digit, first_decimal, length-decimal-le, length_signed_le}
 use Rattle.std.proofs.lemmas.Str.{digit_value_digit}
 use Rattle.std.proofs.lemmas.Str.Parse.{digit_from_value}
-use Rattle.std.proofs.lemmas.Bool.{lt-ltb, le-leb, ne_eqb}
+use Rattle.std.proofs.lemmas.Bool.{lt-ltb, le-leb, ne_eqb, and_right}
 use Rattle.std.proofs.lemmas.List.Elements.{All-cons}
 use Rattle.scripts.specs.Words.{all_digits, is_minus_first, is_space}
 use Rattle.scripts.specs.Numbers as read
@@ -40,10 +40,6 @@ some_digits ds h = rw (lt-ltb 0 (length ds) h.0, all_told ds h.1)
 
 -- ---- a number
 
-neither : (t : Bool) → (t && false) ≡ false
-neither true = refl
-neither false = refl
-
 module _ (n : ℕ) (small : n < 65536) where
   numeral : IsNumeral 10 (decimal n)
   numeral = (decimal_is_IsNumeral n (omega arith)).0
@@ -51,13 +47,13 @@ module _ (n : ℕ) (small : n < 65536) where
   not_zero_led : read.is_zero_led (decimal n) ≡ false
   not_zero_led = ⊎_elim
       (λ (e : n ≡ 0). rw (e, decimal_digit 0 (omega arith)))
-      (λ (some : 0 < n). rw (ne_eqb (get_or (decimal n) 0 0) 48 (λ e. omega (arith, first_decimal n some (omega arith)))) (neither _))
+      (λ (some : 0 < n). rw (ne_eqb (get_or (decimal n) 0 0) 48 (λ e. omega (arith, first_decimal n some (omega arith)))) (and_right _ false refl))
       (eq-zero-or-pos n)
 
   valued : read.value 0 (decimal n) ≡ n
   valued = value_told 0 (decimal n) numeral.1 ∙ (decimal_is_IsNumeral n (omega arith)).1
 
-  digits_back : (most : ℕ) → n ≤ most → read.decimal most (decimal n) ≡ Some n
+  digits_back : (most : ℕ) → n ≤ most → read.from_decimal most (decimal n) ≡ Some n
   digits_back most le = rw (not_zero_led, valued, le-leb n most le)
 
   pub number_back : (most : ℕ) → n ≤ most → read.number most (decimal n) ≡ Some n

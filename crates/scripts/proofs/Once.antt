@@ -1,5 +1,5 @@
 -- A line that is read to a call is the line that is written for it, so that each call has one line.
-use Rattle.std.proofs.Common.{◌≡◌, ℕ, ◌+◌, ◌*◌, ◌/◌, ◌%◌, ◌<◌, ◌≤◌, Bool, true, false, cond, ◌==◌, List, [], ◌∷◌, ◌++◌, length, drop, ℤ, is_some, nat_lt, IfOk, Option, None, Some, Result, Ok, Err, decimal, refl, sym, ap, ◌∙◌, subst, append-nil, arith}
+use Rattle.std.proofs.Common.{◌≡◌, ℕ, ◌+◌, ◌*◌, ◌/◌, ◌%◌, ◌<◌, ◌≤◌, Bool, true, false, cond, ◌==◌, List, [], ◌∷◌, ◌++◌, length, drop, ℤ, is_some, nat_lt, IfOk, Option, None, Some, Result, Ok, Err, ok_or, decimal, refl, sym, ap, ◌∙◌, subst, append-nil, arith}
 use Rattle.std.specs.Fmt.{signed_decimal}
 use Rattle.std.specs.List.{join_with_byte}
 use Rattle.std.proofs.lemmas.Bool.{cond_both, eqb-true, eqb-false}
@@ -10,7 +10,7 @@ use Rattle.rules.specs.declared.call.Call.{Call}
 use Rattle.rules.specs.declared.call.Call.TheVariants as call
 use Rattle.scripts.specs.Words.{is_space, words, letter}
 use Rattle.scripts.specs.Numbers.{field}
-use Rattle.scripts.specs.Lines.{Left, or_place, fit, next, end_of, end, plain, bit_map, alone, read_of, fit_if, next_if, bit_of, card_of, write_of, call_of, all_of, read_words, read, ◌>>=◌}
+use Rattle.scripts.specs.Lines.{Left, fit, next, end_of, end, seat_or_entry, bit_map, alone, read_of, fit_if, next_if, bit_of, card_of, write_of, call_of, all_of, read_words, read, ◌>>=◌}
 use Rattle.scripts.specs.Texts.{spaced, spaced_field, card_text, call_text}
 use Rattle.scripts.proofs.CardBack.{at, map_sum}
 use Rattle.scripts.proofs.OneWord.{number_once, field_once, letter_once}
@@ -43,7 +43,7 @@ steps : {A B : Type 0} (r : Result A ℕ) (f : A → Result B ℕ) (y : B) → (
 steps (Ok x) f y e = (x, refl, e)
 steps (Err place) f y e = cc
 
-placed : {A : Type 0} (o : Option A) (place : ℕ) (x : A) → or_place o place ≡ Ok x → o ≡ Some x
+placed : {A : Type 0} (o : Option A) (place : ℕ) (x : A) → ok_or o place ≡ Ok x → o ≡ Some x
 placed (Some x) place y e = ap Some (same_Ok x y e)
 placed None place y e = cc
 
@@ -63,22 +63,22 @@ none_once (w ∷ ws) place u e = cc
 
 -- ---- numbers
 
-plain_once : (l : Left) (n : ℕ) → fit plain l ≡ Ok n → rest l ≡ spaced n ++ rest (next l)
-plain_once l n e = word_once plain decimal (λ w m is. (number_once 65535 w m (omega arith) is).0) l n e
+seat_or_entry_once : (l : Left) (n : ℕ) → fit seat_or_entry l ≡ Ok n → rest l ≡ spaced n ++ rest (next l)
+seat_or_entry_once l n e = word_once seat_or_entry decimal (λ w m is. (number_once 65535 w m (omega arith) is).0) l n e
 
 alone_once : (l : Left) (n : ℕ) → alone l ≡ Ok n → rest l ≡ spaced n
 unfolding alone
 alone_once l n e =
-    let number = steps (fit plain l) _ n e in
+    let number = steps (fit seat_or_entry l) _ n e in
     let none = steps (end (next l)) _ n number.2 in
-    plain_once l number.0 number.1 ∙ ap (λ t. spaced number.0 ++ t) (none_once (next l).words (next l).place none.0 none.1) ∙ append-nil (spaced number.0) ∙ ap spaced (same_Ok number.0 n none.2)
+    seat_or_entry_once l number.0 number.1 ∙ ap (λ t. spaced number.0 ++ t) (none_once (next l).words (next l).place none.0 none.1) ∙ append-nil (spaced number.0) ∙ ap spaced (same_Ok number.0 n none.2)
 
 read_once : (l : Left) (c : Call) → read_of l ≡ Ok c → 114 ∷ rest l ≡ call_text c
 unfolding read_of
 read_once l c e =
-    let seat = steps (fit plain l) _ c e in
+    let seat = steps (fit seat_or_entry l) _ c e in
     let entry = steps (alone (next l)) _ c seat.2 in
-    ap (λ t. 114 ∷ t) (plain_once l seat.0 seat.1 ∙ ap (λ t. spaced seat.0 ++ t) (alone_once (next l) entry.0 entry.1)) ∙ ap call_text (same_Ok (call.Read seat.0 entry.0) c entry.2)
+    ap (λ t. 114 ∷ t) (seat_or_entry_once l seat.0 seat.1 ∙ ap (λ t. spaced seat.0 ++ t) (alone_once (next l) entry.0 entry.1)) ∙ ap call_text (same_Ok (call.Read seat.0 entry.0) c entry.2)
 
 -- ---- cards
 
@@ -135,13 +135,13 @@ map_once l map e =
 write_once : (l : Left) (c : Call) → write_of l ≡ Ok c → 119 ∷ rest l ≡ call_text c
 unfolding write_of
 write_once l c e =
-    let seat = steps (fit plain l) _ c e in
-    let entry = steps (fit plain (next l)) _ c seat.2 in
+    let seat = steps (fit seat_or_entry l) _ c e in
+    let entry = steps (fit seat_or_entry (next l)) _ c seat.2 in
     let map = steps (fit bit_map (next (next l))) _ c entry.2 in
     let card = steps (card_of map.0 (next (next (next l)))) _ c map.2 in
     let m = map_once (next (next l)) map.0 map.1 in
     let text : 119 ∷ rest l ≡ call_text (call.Write seat.0 entry.0 card.0) =
-    rw (plain_once l seat.0 seat.1, plain_once (next l) entry.0 entry.1, m.0, card_once map.0 (next (next (next l))) card.0 m.1 card.1) in
+    rw (seat_or_entry_once l seat.0 seat.1, seat_or_entry_once (next l) entry.0 entry.1, m.0, card_once map.0 (next (next (next l))) card.0 m.1 card.1) in
     text ∙ ap call_text (same_Ok (call.Write seat.0 entry.0 card.0) c card.2)
 
 -- a call that has one number

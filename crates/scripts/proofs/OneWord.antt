@@ -36,7 +36,7 @@ lone ds some e led = ⊎_elim
     (λ other. absurd (eqb-false (get_or ds 0 0) 48 other led))
     (and_cases (nat_lt 1 (length ds)) (get_or ds 0 0 == 48) e)
 
-digits_once : (most : ℕ) (ds : List ℕ) (n : ℕ) → most < 65536 → (nat_lt 0 (length ds) && all_digits ds) ≡ true → read.decimal most ds ≡ Some n → (ds ≡ decimal n) × (n ≤ most)
+digits_once : (most : ℕ) (ds : List ℕ) (n : ℕ) → most < 65536 → (nat_lt 0 (length ds) && all_digits ds) ≡ true → read.from_decimal most ds ≡ Some n → (ds ≡ decimal n) × (n ≤ most)
 digits_once most ds n small told e =
     let are = and_parts (nat_lt 0 (length ds)) (all_digits ds) told in
     let some : 0 < length ds = ltb-true 0 (length ds) are.0 in
@@ -49,8 +49,8 @@ digits_once most ds n small told e =
 
 pub number_once : (most : ℕ) (w : List ℕ) (n : ℕ) → most < 65536 → read.number most w ≡ Some n → (w ≡ decimal n) × (n ≤ most)
 number_once most w n small e =
-    let is = passed (is_number w) (read.unsigned_of most w) n e in
-    let bare = refuted (is_minus_first w) (read.decimal most w) n is.1 in
+    let is = passed (is_number w) (read.unsigned most w) n e in
+    let bare = refuted (is_minus_first w) (read.from_decimal most w) n is.1 in
     digits_once most w n small (subst (λ t. (nat_lt 0 (length (cond t (drop 1 w) w)) && all_digits (cond t (drop 1 w) w)) ≡ true) bare.0 is.0) bare.1
 
 minus : (w : List ℕ) → is_minus_first w ≡ true → w ≡ 45 ∷ drop 1 w
@@ -67,12 +67,12 @@ negative_once w (Some zero) z is e = absurd (none-some z e)
 negative_once w (Some (suc n)) z is e = is (suc n) refl ∙ ap signed_decimal (same_Some (negsuc n) z e)
 
 signed_once : (t : Bool) (w : List ℕ) (z : ℤ) → is_minus_first w ≡ t → (nat_lt 0 (length (cond t (drop 1 w) w)) && all_digits (cond t (drop 1 w) w)) ≡ true
-    → cond t (option_and_then read.negative (read.decimal 32768 (drop 1 w))) (option_map pos (read.decimal 32767 w)) ≡ Some z → w ≡ signed_decimal z
-signed_once true w z sign told e = negative_once w (read.decimal 32768 (drop 1 w)) z (λ n is. minus w sign ∙ ap (λ ds. 45 ∷ ds) (digits_once 32768 (drop 1 w) n (omega arith) told is).0) e
-signed_once false w z sign told e = positive_once w (read.decimal 32767 w) z (λ n is. (digits_once 32767 w n (omega arith) told is).0) e
+    → cond t (option_and_then read.negative (read.from_decimal 32768 (drop 1 w))) (option_map pos (read.from_decimal 32767 w)) ≡ Some z → w ≡ signed_decimal z
+signed_once true w z sign told e = negative_once w (read.from_decimal 32768 (drop 1 w)) z (λ n is. minus w sign ∙ ap (λ ds. 45 ∷ ds) (digits_once 32768 (drop 1 w) n (omega arith) told is).0) e
+signed_once false w z sign told e = positive_once w (read.from_decimal 32767 w) z (λ n is. (digits_once 32767 w n (omega arith) told is).0) e
 
 pub field_once : (w : List ℕ) (z : ℤ) → read.field w ≡ Some z → w ≡ signed_decimal z
-field_once w z e = let is = passed (is_number w) (read.signed_of w) z e in signed_once (is_minus_first w) w z refl is.0 is.1
+field_once w z e = let is = passed (is_number w) (read.signed w) z e in signed_once (is_minus_first w) w z refl is.0 is.1
 
 pub letter_once : (w : List ℕ) (b : ℕ) → letter w ≡ Some b → w ≡ b ∷ []
 letter_once [] b e = absurd (none-some b e)

@@ -6,14 +6,11 @@ use Rattle.std.proofs.lemmas.List.Sums.{fails_before_first}
 use Rattle.std.proofs.lemmas.List.Elements.{All-from_get_or}
 use Rattle.std.proofs.lemmas.List.{take_all}
 use Rattle.std.proofs.lemmas.Bool.{ltb-true, ltb-false}
+use Rattle.std.proofs.lemmas.Option.{cond_some}
 use Rattle.scripts.specs.Words.{is_space, words}
 use Rattle.scripts.specs.Lines.{end_of}
 
--- the place of the first space, where there is one
-pub found : (at n : ℕ) (t : Bool) → cond t (Some n) None ≡ Some at → (t ≡ true) × (n ≡ at)
-found at n true e = (refl, cc)
-found at n false e = cc
-
+-- no byte was found
 pub missed : (n : ℕ) (t : Bool) → cond t (Some n) None ≡ None → t ≡ false
 missed n true e = cc
 missed n false e = refl
@@ -21,7 +18,7 @@ missed n false e = refl
 -- a line cut at its first space
 pub cut_at : (line : List ℕ) (at : ℕ) → position is_space line ≡ Some at → words line ≡ take at line ∷ words (take (length line - (at + 1)) (drop (at + 1) line))
 cut_at line at e =
-    let f = found at (position_or_len is_space line) (ltb (position_or_len is_space line) (length line)) e in
+    let f = cond_some (ltb (position_or_len is_space line) (length line)) (position_or_len is_space line) at e in
     let parts = slice_split_first is_space line 0 (ltb-true _ _ f.0) in
     let here = subst (λ (n : ℕ). words line ≡ take n line ∷ words (drop (n + 1) line)) f.1 parts in
     let all : take (length line - (at + 1)) (drop (at + 1) line) ≡ drop (at + 1) line = take_all _ (drop (at + 1) line) (omega (arith, length-drop (at + 1) line)) in

@@ -1,5 +1,5 @@
 -- What a line of a script says: a call, or the place of the first word that does not fit.
-use Rattle.std.specs.Prelude.{ℕ, ◌+◌, ◌/◌, ◌%◌, Bool, cond, List, [], ◌∷◌, length, ℤ, Some, None, Ok, Err, Option, Result, option_and_then, ◌==◌, nat_lt}
+use Rattle.std.specs.Prelude.{ℕ, ◌+◌, ◌/◌, ◌%◌, Bool, cond, List, [], ◌∷◌, length, ℤ, Some, None, Ok, Err, Option, Result, option_and_then, ok_or, ◌==◌, nat_lt}
 use Rattle.cards.specs.declared.card.Card.{Card}
 use Rattle.rules.specs.declared.call.Call.{Call}
 use Rattle.rules.specs.declared.call.Call.TheVariants as call
@@ -16,28 +16,25 @@ abbrev pub first : List (List ℕ) → Option (List ℕ)
 first [] = None
 first (word ∷ more) = Some word
 
--- a value that is there, else the place
-abbrev pub or_place : {A : Type 0} → Option A → ℕ → Result A ℕ
-or_place (Some x) place = Ok x
-or_place None place = Err place
-
 -- what the next word stands for, or its place if it is missing or does not fit
 abbrev pub fit : {A : Type 0} → (List ℕ → Option A) → Left → Result A ℕ
-fit f l = or_place (option_and_then f (first l.words)) l.place
+fit f l = ok_or (option_and_then f (first l.words)) l.place
 
--- the words behind the next one
+-- what is left behind the next of some words, with its place
 abbrev next_of : List (List ℕ) → ℕ → Left
 next_of [] place = record { words = []; place = place }
 next_of (word ∷ more) place = record { words = more; place = place + 1 }
 
+-- what is left behind the next word
 abbrev pub next : Left → Left
 next l = next_of l.words l.place
 
--- no word is left; else the place of the first that is
+-- nothing, where no word is left; else the place of the first
 abbrev pub end_of : List (List ℕ) → ℕ → Result (Unit {0}) ℕ
 end_of [] place = Ok tt
 end_of (word ∷ more) place = Err place
 
+-- the same of what is left of a line
 abbrev pub end : Left → Result (Unit {0}) ℕ
 end l = end_of l.words l.place
 
@@ -48,8 +45,8 @@ abbrev pub ◌>>=◌ : {A B : Type 0} → Result A ℕ → (A → Result B ℕ) 
 (Err place) >>= f = Err place
 
 -- a seat or an entry
-abbrev pub plain : List ℕ → Option ℕ
-plain word = number 65535 word
+abbrev pub seat_or_entry : List ℕ → Option ℕ
+seat_or_entry word = number 65535 word
 
 -- a bit map
 abbrev pub bit_map : List ℕ → Option ℕ
@@ -58,26 +55,28 @@ bit_map word = number 63 word
 -- one number and nothing behind it
 unfoldable pub alone : Left → Result ℕ ℕ
 alone l = do
-  n ← fit plain l
+  n ← fit seat_or_entry l
   none ← end (next l)
   Ok n
 
 -- a read: seat and entry
 unfoldable pub read_of : Left → Result Call ℕ
 read_of l = do
-  seat ← fit plain l
+  seat ← fit seat_or_entry l
   entry ← alone (next l)
   Ok (call.Read seat entry)
 
--- a field whose bit stands is the next word; one whose bit does not is absent, and takes none
+-- a field that is the next word
 abbrev there : Left → Result (Option ℤ) ℕ
 there l = do
   z ← fit field l
   Ok (Some z)
 
+-- a field whose bit stands is the next word; one whose bit does not is absent, and takes none
 abbrev pub fit_if : Bool → Left → Result (Option ℤ) ℕ
 fit_if present l = cond present (there l) (Ok None)
 
+-- what is left behind such a field
 abbrev pub next_if : Bool → Left → Left
 next_if present l = cond present (next l) l
 
@@ -105,8 +104,8 @@ card_of map l = do
 -- a write: seat, entry, bit map and the map's fields
 unfoldable pub write_of : Left → Result Call ℕ
 write_of l = do
-  seat ← fit plain l
-  entry ← fit plain (next l)
+  seat ← fit seat_or_entry l
+  entry ← fit seat_or_entry (next l)
   map ← fit bit_map (next (next l))
   card ← card_of map (next (next (next l)))
   Ok (call.Write seat entry card)
@@ -119,18 +118,18 @@ one make l = do
 
 -- the call that a letter names: p e r w l s u t d q c; another letter does not fit, and has place 1
 unfoldable pub call_of : ℕ → Left → Result Call ℕ
-call_of letter l =
-    cond (letter == 112) (one call.Proof l)
-    (cond (letter == 101) (one call.Edit l)
-    (cond (letter == 114) (read_of l)
-    (cond (letter == 119) (write_of l)
-    (cond (letter == 108) (one call.Lock l)
-    (cond (letter == 115) (one call.Stamp l)
-    (cond (letter == 117) (one call.Put l)
-    (cond (letter == 116) (one call.Settle l)
-    (cond (letter == 100) (one call.Drop l)
-    (cond (letter == 113) (one call.End l)
-    (cond (letter == 99) (one call.Collect l)
+call_of name l =
+    cond (name == 112) (one call.Proof l)
+    (cond (name == 101) (one call.Edit l)
+    (cond (name == 114) (read_of l)
+    (cond (name == 119) (write_of l)
+    (cond (name == 108) (one call.Lock l)
+    (cond (name == 115) (one call.Stamp l)
+    (cond (name == 117) (one call.Put l)
+    (cond (name == 116) (one call.Settle l)
+    (cond (name == 100) (one call.Drop l)
+    (cond (name == 113) (one call.End l)
+    (cond (name == 99) (one call.Collect l)
     (Err 1)))))))))))
 
 -- the words of a line before any is read
@@ -140,8 +139,8 @@ all_of line = record { words = words line; place = 1 }
 -- the call of the words
 unfoldable pub read_words : Left → Result Call ℕ
 read_words l = do
-  first ← fit letter l
-  call_of first (next l)
+  name ← fit letter l
+  call_of name (next l)
 
 -- the call of a line, or the place of the first word that does not fit; 0 for a line of more than 80 bytes
 abbrev pub read : List ℕ → Result Call ℕ

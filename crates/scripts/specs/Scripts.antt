@@ -30,11 +30,11 @@ calls_in (Ok c ∷ said) = c ∷ calls_in said
 calls_in (Err place ∷ said) = calls_in said
 
 -- the line that answers each: a call's takes the next of the answers, of which there is one for each call; one that cannot be read says so
-abbrev pub told : List (Result Call ℕ) → List (Result Answer Refusal) → List ℕ
-told [] rs = []
-told (Err place ∷ said) rs = unread_text place ++ told said rs
-told (Ok c ∷ said) [] = []
-told (Ok c ∷ said) (r ∷ rs) = answer_text c r ++ told said rs
+abbrev pub answer_lines : List (Result Call ℕ) → List (Result Answer Refusal) → List ℕ
+answer_lines [] rs = []
+answer_lines (Err place ∷ said) rs = unread_text place ++ answer_lines said rs
+answer_lines (Ok c ∷ said) [] = []
+answer_lines (Ok c ∷ said) (r ∷ rs) = answer_text c r ++ answer_lines said rs
 
 -- ---- one line
 
@@ -54,7 +54,7 @@ line_text s (Err place) = unread_text place
 abbrev pub most_bytes : ℕ
 most_bytes = 64
 
--- memory of n bytes has room for the answers to every script of so many lines
+-- memory of n bytes has the room that a script asks for: 64 bytes for each line
 abbrev pub has_room : List ℕ → ℕ → Bool
 has_room script n = nat_le (most_bytes * length (lines script)) n
 
@@ -68,7 +68,7 @@ script_answers s script n = answers s (script_calls script n)
 
 -- what is written
 abbrev pub script_text : State → List ℕ → ℕ → List ℕ
-script_text s script n = cond (has_room script n) (told (readings script) (script_answers s script n)) []
+script_text s script n = cond (has_room script n) (answer_lines (readings script) (script_answers s script n)) []
 
 -- how many bytes are written, or Short
 abbrev pub script_result : State → List ℕ → ℕ → Result ℕ Refusal

@@ -65,7 +65,7 @@ given_text answer.Done = []
 -- 0 and what a granted call gives, or the number of the refusal
 abbrev pub outcome_text : Result Answer Refusal → List ℕ
 outcome_text (Ok given) = spaced 0 ++ given_text given
-outcome_text (Err why) = spaced (number_of why)
+outcome_text (Err refusal) = spaced (number_of refusal)
 
 -- the line that answers a call: its letter and its outcome
 abbrev pub answer_text : Call → Result Answer Refusal → List ℕ

@@ -1,5 +1,5 @@
 -- What a cursor and a word stand for.
-use Rattle.std.specs.Prelude.{◌≡◌, ℕ, true, false, List, Some, None, Option}
+use Rattle.std.specs.Prelude.{◌≡◌, ℕ, true, false, List}
 use Rattle.scripts.specs.Words.{words_in, is_letter, is_number}
 use Rattle.scripts.specs.declared.cursor.Cursor.{Cursor}
 use Rattle.scripts.specs.Lines.{Left}
@@ -13,15 +13,10 @@ bytes_of (kind.Number bytes) = bytes.now
 bytes_of (kind.Other bytes) = bytes.now
 
 -- the kind that a word is given
-abbrev pub IsSorted : Word → Type 0
-IsSorted (kind.Letter bytes) = (is_letter bytes.now ≡ true) × (is_number bytes.now ≡ false)
-IsSorted (kind.Number bytes) = (is_letter bytes.now ≡ false) × (is_number bytes.now ≡ true)
-IsSorted (kind.Other bytes) = (is_letter bytes.now ≡ false) × (is_number bytes.now ≡ false)
-
--- the bytes of a word, where there is one
-abbrev pub bytes_in : Option Word → Option (List ℕ)
-bytes_in None = None
-bytes_in (Some word) = Some (bytes_of word)
+abbrev pub HasKind : Word → Type 0
+HasKind (kind.Letter bytes) = (is_letter bytes.now ≡ true) × (is_number bytes.now ≡ false)
+HasKind (kind.Number bytes) = (is_letter bytes.now ≡ false) × (is_number bytes.now ≡ true)
+HasKind (kind.Other bytes) = (is_letter bytes.now ≡ false) × (is_number bytes.now ≡ false)
 
 -- what a cursor has left to read
 abbrev pub left_of : Cursor → Left

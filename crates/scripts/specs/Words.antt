@@ -26,8 +26,8 @@ is_minus_first [] = false
 is_minus_first (byte ∷ bytes) = byte == 45
 
 -- the word without the minus that it may begin with
-abbrev pub unsigned : List ℕ → List ℕ
-unsigned word = cond (is_minus_first word) (drop 1 word) word
+abbrev pub without_minus : List ℕ → List ℕ
+without_minus word = cond (is_minus_first word) (drop 1 word) word
 
 -- one byte alone, a small letter
 abbrev pub is_letter : List ℕ → Bool
@@ -37,7 +37,7 @@ is_letter (byte ∷ next ∷ bytes) = false
 
 -- digits, one at least, and perhaps a minus before them
 abbrev pub is_number : List ℕ → Bool
-is_number word = nat_lt 0 (length (unsigned word)) && all_digits (unsigned word)
+is_number word = nat_lt 0 (length (without_minus word)) && all_digits (without_minus word)
 
 -- the letter of a word that is one
 abbrev pub letter : List ℕ → Option ℕ
@@ -48,7 +48,7 @@ abbrev pub words_in : Option (Bor (List ℕ)) → List (List ℕ)
 words_in None = []
 words_in (Some bytes) = words bytes.now
 
--- more words than these it cannot have
-abbrev pub room : Option (Bor (List ℕ)) → ℕ
-room None = 0
-room (Some bytes) = length bytes.now + 1
+-- the most words that what is left of a line can have
+abbrev pub most_words : Option (Bor (List ℕ)) → ℕ
+most_words None = 0
+most_words (Some bytes) = length bytes.now + 1

@@ -1,6 +1,7 @@
 // The lines of a script, read to calls, and the lines that answer them.
 #![tactic(auto)]
 
+mod bytes;
 mod cursor;
 mod numbers;
 pub mod reading;
@@ -8,5 +9,5 @@ pub mod running;
 mod script;
 mod taking;
 mod text;
-pub mod words;
+mod words;
 pub mod writing;

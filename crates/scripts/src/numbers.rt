@@ -1,8 +1,8 @@
 // The numbers that words stand for.
-ghost use Rattle.std.specs.Prelude.{◌≡◌, ℕ, ◌+◌, ◌*◌, ◌<◌, ◌≤◌, length};
+ghost use Rattle.std.specs.Prelude.{◌≡◌, ◌+◌, ◌*◌, ◌<◌, ◌≤◌};
 ghost use Rattle.scripts.specs.Words.{letter};
-ghost use Rattle.scripts.specs.Numbers.{value, up_to, decimal, unsigned_of, negative, signed_of, number, field};
-ghost use Rattle.scripts.specs.View.{bytes_of, IsSorted};
+ghost use Rattle.scripts.specs.Numbers.{value, up_to, from_decimal, unsigned, negative, signed, number, field};
+ghost use Rattle.scripts.specs.View.{bytes_of, HasKind};
 
 use crate::words::Word;
 
@@ -22,8 +22,8 @@ fn value(digits: &[u8], most: u16) -> Option<u16>
 }
 
 // The same of digits that no 0 may lead.
-fn decimal(digits: &[u8], most: u16) -> Option<u16>
-    ensures { result ≡ decimal most digits.now }
+fn from_decimal(digits: &[u8], most: u16) -> Option<u16>
+    ensures { result ≡ from_decimal most digits.now }
 {
     if digits.len() > 1 && digits[0] == b'0' {
         return None;
@@ -33,11 +33,11 @@ fn decimal(digits: &[u8], most: u16) -> Option<u16>
 
 // The same, where no minus may stand before them.
 fn unsigned(bytes: &[u8], most: u16) -> Option<u16>
-    ensures { result ≡ unsigned_of most bytes.now }
+    ensures { result ≡ unsigned most bytes.now }
 {
     match bytes {
         [b'-', ..] => None,
-        _ => decimal(bytes, most),
+        _ => from_decimal(bytes, most),
     }
 }
 
@@ -54,17 +54,17 @@ fn negative(size: u16) -> Option<i16>
 
 // The number of digits with perhaps a minus before them, of 16 bits.
 fn signed(bytes: &[u8]) -> Option<i16>
-    ensures { result ≡ signed_of bytes.now }
+    ensures { result ≡ signed bytes.now }
 {
     match bytes {
-        [b'-', digits @ ..] => negative(decimal(digits, 32768)?),
-        _ => Some(decimal(bytes, 32767)? as i16),
+        [b'-', digits @ ..] => negative(from_decimal(digits, 32768)?),
+        _ => Some(from_decimal(bytes, 32767)? as i16),
     }
 }
 
 // The letter of a word.
 pub(crate) fn letter(word: Word<'_>) -> Option<char>
-    requires { IsSorted word }
+    requires { HasKind word }
     ensures { result ≡ letter (bytes_of word.entry) }
 {
     match word {
@@ -75,7 +75,7 @@ pub(crate) fn letter(word: Word<'_>) -> Option<char>
 
 // The number of a word without a sign.
 pub(crate) fn number(word: Word<'_>, most: u16) -> Option<u16>
-    requires { IsSorted word }
+    requires { HasKind word }
     ensures { result ≡ number most (bytes_of word.entry) }
 {
     match word {
@@ -86,7 +86,7 @@ pub(crate) fn number(word: Word<'_>, most: u16) -> Option<u16>
 
 // The number of a word that may have a minus.
 pub(crate) fn field(word: Word<'_>) -> Option<i16>
-    requires { IsSorted word }
+    requires { HasKind word }
     ensures { result ≡ field (bytes_of word.entry) }
 {
     match word {

@@ -1,5 +1,5 @@
 // Reading a line to its call.
-ghost use Rattle.std.specs.Prelude.{◌≡◌, ℕ, ◌≤◌, IfOk};
+ghost use Rattle.std.specs.Prelude.{◌≡◌, IfOk};
 ghost use Rattle.scripts.specs.Lines.{alone, read_of, card_of, write_of, call_of, read_words, read};
 ghost use Rattle.scripts.specs.Texts.{call_text};
 ghost use Rattle.scripts.specs.View.{left_of};
@@ -8,38 +8,38 @@ use crate::cursor::Cursor;
 use cards::card::Card;
 use rules::call::Call;
 
-// The most bytes that a line may have.
+// The most bytes of a line that is read, without its end.
 const LONGEST: usize = 80;
 
 // The greatest seat or entry that can be written.
-const MOST: u16 = u16::MAX;
+const MOST_NUMBER: u16 = u16::MAX;
 
 // The greatest bit map.
-const MAP_MOST: u16 = 63;
+const MOST_MAP: u16 = 63;
 
 // One number and nothing behind it.
 #[tactic(auto, unfolding(crate::specs::Lines::alone))]
 fn alone(words: &mut Cursor<'_>) -> Result<u16, u32>
     ensures { result ≡ alone (left_of words.old) }
 {
-    let number = words.number(MOST)?;
+    let number = words.number(MOST_NUMBER)?;
     words.end()?;
     Ok(number)
 }
 
 // A read behind its letter.
 #[tactic(auto, unfolding(crate::specs::Lines::read_of))]
-fn read_call(words: &mut Cursor<'_>) -> Result<Call, u32>
+fn read_of(words: &mut Cursor<'_>) -> Result<Call, u32>
     ensures { result ≡ read_of (left_of words.old) }
 {
-    let seat = words.number(MOST)?;
+    let seat = words.number(MOST_NUMBER)?;
     let entry = alone(words)?;
     Ok(Call::Read { seat, entry })
 }
 
 // The fields whose bits stand in a map, and nothing behind them.
 #[tactic(auto, unfolding(crate::specs::Lines::card_of))]
-fn read_card(map: u16, words: &mut Cursor<'_>) -> Result<Card, u32>
+fn card_of(map: u16, words: &mut Cursor<'_>) -> Result<Card, u32>
     ensures { result ≡ card_of map (left_of words.old) }
 {
     // Six steps, since a card is six named fields and no array.
@@ -62,26 +62,26 @@ fn read_card(map: u16, words: &mut Cursor<'_>) -> Result<Card, u32>
 
 // A write behind its letter.
 #[tactic(auto, unfolding(crate::specs::Lines::write_of))]
-fn write_call(words: &mut Cursor<'_>) -> Result<Call, u32>
+fn write_of(words: &mut Cursor<'_>) -> Result<Call, u32>
     ensures { result ≡ write_of (left_of words.old) }
 {
-    let seat = words.number(MOST)?;
-    let entry = words.number(MOST)?;
-    let map = words.number(MAP_MOST)?;
-    let card = read_card(map, words)?;
+    let seat = words.number(MOST_NUMBER)?;
+    let entry = words.number(MOST_NUMBER)?;
+    let map = words.number(MOST_MAP)?;
+    let card = card_of(map, words)?;
     Ok(Call::Write { seat, entry, card })
 }
 
 // The call that a letter names, with the numbers behind it.
 #[tactic(auto, unfolding(crate::specs::Lines::call_of))]
-fn call_behind(letter: char, words: &mut Cursor<'_>) -> Result<Call, u32>
+fn call_of(letter: char, words: &mut Cursor<'_>) -> Result<Call, u32>
     ensures { result ≡ call_of letter (left_of words.old) }
 {
     match letter {
         'p' => alone(words).map(|seat| Call::Proof { seat }),
         'e' => alone(words).map(|seat| Call::Edit { seat }),
-        'r' => read_call(words),
-        'w' => write_call(words),
+        'r' => read_of(words),
+        'w' => write_of(words),
         'l' => alone(words).map(|seat| Call::Lock { seat }),
         's' => alone(words).map(|seat| Call::Stamp { seat }),
         'u' => alone(words).map(|seat| Call::Put { seat }),
@@ -93,24 +93,17 @@ fn call_behind(letter: char, words: &mut Cursor<'_>) -> Result<Call, u32>
     }
 }
 
-// The call of a line, or the place of the first word that does not fit, from 1; 0 for a line that is too long.
+// The call of a line, or the place of the first word that does not fit, from 1; 0 for a line that is too long. No call is
+// read from another line than the one that is written for it.
 #[tactic(auto, unfolding(crate::specs::Lines::read_words))]
-fn call_in(line: &[u8]) -> Result<Call, u32>
-    ensures { result ≡ read line.now }
+pub fn read_line(line: &[u8]) -> Result<Call, u32>
+    ensures answer { result ≡ read line.now }
+    ensures line { IfOk result (λ c. line.now ≡ call_text c) }
 {
     if line.len() > LONGEST {
         return Err(0);
     }
     let mut words = Cursor::new(line);
     let letter = words.letter()?;
-    call_behind(letter, &mut words)
-}
-
-// The same; and no call is read from another line than the one that is written for it.
-#[tactic(auto, using(crate::proofs::Once::answer_once))]
-pub fn read_line(line: &[u8]) -> Result<Call, u32>
-    ensures answer { result ≡ read line.now }
-    ensures line { IfOk result (λ c. line.now ≡ call_text c) }
-{
-    call_in(line)
+    call_of(letter, &mut words)
 }

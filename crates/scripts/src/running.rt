@@ -1,10 +1,10 @@
 // Running a script on a store.
-ghost use Rattle.std.specs.Prelude.{◌≡◌, ℕ, ◌+◌, ◌-◌, ◌*◌, ◌^◌, ◌≤◌, false, List, [], ◌++◌, is_ok, length, take, drop, min};
+ghost use Rattle.std.specs.Prelude.{◌≡◌, ◌+◌, ◌-◌, ◌*◌, ◌^◌, ◌≤◌, false, List, ◌++◌, is_ok, length, take, drop, min};
 ghost use Rattle.rules.specs.Runs.{Event, events, Reached, answers, play};
 ghost use Rattle.store.specs.Runs.{LawfulRun};
 ghost use Rattle.store.specs.View.{view};
 ghost use Rattle.scripts.specs.Lines.{read};
-ghost use Rattle.scripts.specs.Scripts.{lines as lines-of, readings, calls_in, told, moved, line_text, most_bytes, script_calls, script_answers, script_text, script_result, written};
+ghost use Rattle.scripts.specs.Scripts.{lines as lines-of, readings, calls_in, answer_lines, moved, line_text, most_bytes, script_calls, script_answers, script_text, script_result, written};
 
 use crate::reading::read_line;
 use crate::script::{count_lines, cut_line};
@@ -26,7 +26,7 @@ fn answer<K: Keeper>(store: &mut Store<K>, line: &[u8]) -> Line
 }
 
 // Writes a text at a place of memory.
-fn put_at(memory: &mut [u8], at: usize, text: &[u8])
+fn write_at(memory: &mut [u8], at: usize, text: &[u8])
     requires { at + length text.now ≤ length memory.old }
     ensures { memory.new ≡ take at memory.old ++ (text.now ++ drop (at + length text.now) memory.old) }
 {
@@ -43,22 +43,23 @@ fn answer_lines<K: Keeper>(
     requires all { lines ≡ length (lines-of script.now) }
     requires room { most_bytes * lines ≤ length memory.old }
     ensures state { view K.kept K.places store.new ≡ play (view K.kept K.places store.old) (calls_in (readings script.now)) }
-    ensures memory { memory.new ≡ written (told (readings script.now) (answers (view K.kept K.places store.old) (calls_in (readings script.now)))) memory.old }
-    ensures result { result ≡ length (told (readings script.now) (answers (view K.kept K.places store.old) (calls_in (readings script.now)))) }
+    ensures memory { memory.new ≡ written (answer_lines (readings script.now) (answers (view K.kept K.places store.old) (calls_in (readings script.now)))) memory.old }
+    ensures result { result ≡ length (answer_lines (readings script.now) (answers (view K.kept K.places store.old) (calls_in (readings script.now)))) }
 {
     let mut rest = script;
     let mut at = 0;
+    // As many times as lines were counted: their room was asked for, and the loop ends.
     for _line in 0..lines {
         let (line, more) = cut_line(rest);
         let text = answer(store, line);
-        put_at(memory, at, text.as_str().as_bytes());
+        write_at(memory, at, text.as_str().as_bytes());
         at += text.len();
         rest = more;
     }
     at
 }
 
-// The most bytes that the answers to a script can take.
+// The room that is asked for the answers to a script: 64 bytes for each line, or the greatest number where that is more.
 pub fn room_for(script: &[u8]) -> usize
     ensures { result ≡ min (most_bytes * length (lines-of script.now)) (2 ^ 64 - 1) }
 {

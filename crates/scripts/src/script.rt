@@ -1,14 +1,9 @@
 // The lines of a script, cut off one by one.
-ghost use Rattle.std.specs.Prelude.{◌≡◌, ℕ, ◌<◌, ◌∷◌, length};
-ghost use Rattle.std.specs.List.{position, count_by};
+ghost use Rattle.std.specs.Prelude.{◌≡◌, ◌<◌, ◌∷◌, length};
+ghost use Rattle.std.specs.List.{count_by};
 ghost use Rattle.scripts.specs.Scripts.{is_end, lines};
 
-// Where the first line ends.
-fn first_end(script: &[u8]) -> Option<usize>
-    ensures { result ≡ position is_end script.now }
-{
-    script.iter().position(|byte| *byte == b'\n')
-}
+use crate::bytes::first_at;
 
 // The first line of some, and what stands behind its end.
 #[tactic(auto, using(crate::proofs::Cuts::cut_at, crate::proofs::Cuts::uncut))]
@@ -16,7 +11,7 @@ pub(crate) fn cut_line(script: &[u8]) -> (&[u8], &[u8])
     requires { 0 < length script.now }
     ensures { lines script.now ≡ result.0.now ∷ lines result.1.now }
 {
-    match first_end(script) {
+    match first_at(script, b'\n') {
         Some(at) => (&script[..at], &script[at + 1..]),
         None => (script, &[]),
     }

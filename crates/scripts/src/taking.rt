@@ -1,13 +1,13 @@
 // Reading the words of a line, one by one.
-ghost use Rattle.std.specs.Prelude.{◌≡◌, ℕ, ◌+◌, ◌≤◌, Bool, length, IfSome};
+ghost use Rattle.std.specs.Prelude.{◌≡◌, ◌+◌, ◌≤◌, length, IfSome, option_map};
 ghost use Rattle.scripts.specs.Words.{letter};
 ghost use Rattle.scripts.specs.Numbers.{number, field};
-ghost use Rattle.scripts.specs.Lines.{first, fit, next, end, fit_if, next_if, plain, alone, all_of};
-ghost use Rattle.scripts.specs.View.{bytes_in, IsSorted, left_of};
+ghost use Rattle.scripts.specs.Lines.{first, fit, next, end, fit_if, next_if, all_of};
+ghost use Rattle.scripts.specs.View.{bytes_of, HasKind, left_of};
 
 use crate::cursor::Cursor;
 use crate::numbers;
-use crate::words::{Word, cut, sorted};
+use crate::words::{Word, cut, kind_of};
 
 impl<'a> Cursor<'a> {
     // Before the first word.
@@ -23,14 +23,14 @@ impl<'a> Cursor<'a> {
 
     // The next word, if there is one.
     pub(crate) fn word(&mut self) -> Option<Word<'a>>
-        ensures word { bytes_in result ≡ first (left_of self.old).words }
-        ensures kind { IfSome result IsSorted }
+        ensures word { option_map bytes_of result ≡ first (left_of self.old).words }
+        ensures kind { IfSome result HasKind }
         ensures rest { left_of self.new ≡ next (left_of self.old) }
     {
         let (word, left) = cut(self.left?);
         self.left = left;
         self.place += 1;
-        Some(sorted(word))
+        Some(kind_of(word))
     }
 
     // The letter that the next word is.
@@ -63,7 +63,7 @@ impl<'a> Cursor<'a> {
         numbers::field(word).ok_or(place)
     }
 
-    // Nothing is left.
+    // Whether no word is left, or the place of the next.
     #[tactic(auto, using(crate::proofs::Parts::has_word))]
     pub(crate) fn end(&self) -> Result<(), u32>
         ensures { result ≡ end (left_of self.now) }
@@ -74,7 +74,7 @@ impl<'a> Cursor<'a> {
         }
     }
 
-    // A field that is the next word where it is there, and takes none where it is not.
+    // A field: the next word where it is present; where it is not, no word is taken.
     pub(crate) fn field_if(&mut self, present: bool) -> Result<Option<i16>, u32>
         ensures answer { result ≡ fit_if present (left_of self.old) }
         ensures rest { left_of self.new ≡ next_if present (left_of self.old) }

@@ -7,7 +7,7 @@ use arrayvec::ArrayString;
 use cards::card::Card;
 use itoa::{Buffer, Integer};
 
-// The most bytes that a line has: every answer and every call fits.
+// The most bytes of a line that is written: an answer has 49 at most with its end, a call 58.
 pub const MOST_BYTES: usize = 64;
 
 // A line that is written. Its bytes lie in the value itself, so writing takes no heap.

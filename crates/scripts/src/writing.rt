@@ -31,7 +31,7 @@ fn letter_of(call: Call) -> char
 }
 
 // The numbers of a call.
-fn numbers(line: &mut Line, call: Call)
+fn numbers_of(line: &mut Line, call: Call)
     requires { length line.old.bytes + 58 ≤ most_bytes }
     ensures { line.new.bytes ≡ line.old.bytes ++ numbers_of call }
 {
@@ -57,23 +57,16 @@ fn numbers(line: &mut Line, call: Call)
     }
 }
 
-// The letter and the numbers of a call.
-fn written(call: Call) -> Line
-    ensures { result.bytes ≡ call_text call }
-{
-    let mut line = Line::new();
-    byte(&mut line, letter_of(call));
-    numbers(&mut line, call);
-    line
-}
-
 // The line of a call, without its end. It is read as that call.
 #[tactic(auto, using(crate::proofs::Back::read_back))]
 pub fn call_line(call: Call) -> Line
     ensures text { result.bytes ≡ call_text call }
     ensures back { read result.bytes ≡ Ok call }
 {
-    written(call)
+    let mut line = Line::new();
+    byte(&mut line, letter_of(call));
+    numbers_of(&mut line, call);
+    line
 }
 
 // What a granted call gives.

@@ -1,7 +1,6 @@
 // Runs the script of the standard input on a new, small store, and writes the answers to its lines.
 #![tactic(auto)]
 
-use anyhow::bail;
 use scratch::run_on_scratch;
 use scripts::running::room_for;
 use std::io::{self, Print, Read};
@@ -12,10 +11,8 @@ const MOST_SCRIPT: u64 = 65_536;
 // Runs a script, and writes the answers.
 fn answer(rt: &HostRuntime, script: &[u8]) -> anyhow::Result<()> {
     let mut memory = vec![in rt.alloc(); 0u8; room_for(script)]?;
-    match run_on_scratch(rt.alloc(), script, &mut memory) {
-        Ok(len) => Ok(rt.write_all(&memory[..len])?),
-        Err(why) => bail!("declined by {}, {why}", why.number()),
-    }
+    let len = run_on_scratch(rt.alloc(), script, &mut memory)?;
+    Ok(rt.write_all(&memory[..len])?)
 }
 
 fn main(rt: HostRuntime) -> anyhow::Result<()> {
