@@ -1,10 +1,12 @@
-// What proofs cannot say is tried: long runs of calls are made on a store over each keeper and on a plain store, written apart from
-// it, and compared after each call; then the law is tried on the answers. A seed and a number of calls for each phase may be given.
+// What no contract says is tried: that a store does what docs/RULES.md and docs/REFUSALS.md say in words. Long runs of calls are made on a
+// store over each keeper and on a plain store, written apart from it, and their answers are compared call by call, mostly with all that
+// the call may change; then the law is tried on the answers. A seed and a number of calls for each phase may be given.
 #![tactic(auto)]
 
 mod account;
 mod choice;
 mod compare;
+mod desk;
 mod dice;
 mod law;
 mod made;
@@ -15,9 +17,7 @@ mod run;
 mod seat;
 mod served;
 mod shape;
-mod sitting;
 mod tally;
-mod worked;
 
 use anyhow::{Context, Result, ensure};
 use linked::Linked;
@@ -26,7 +26,6 @@ use roll::Roll;
 use shape::{SHAPES, Shape};
 use std::env;
 use tally::Tally;
-use worked::{try_cases, try_script};
 
 // The seed, and how many calls each phase throws.
 #[derive(Clone, Copy)]
@@ -83,8 +82,5 @@ fn asked_length(rt: &HostRuntime) -> Result<Length> {
 
 fn main(rt: HostRuntime) -> Result<()> {
     let length = asked_length(&rt)?;
-    try_script(&rt)?;
-    try_cases::<Linked>(&rt)?;
-    try_cases::<Roll>(&rt)?;
     try_phases(&rt, length)
 }

@@ -12,7 +12,7 @@ use rules::stage::Stage;
 use std::alloc::Global;
 
 // Ends proofs, drops edits that have no time, and puts the drafts of those that have one.
-fn put_off<K: Made>(run: &mut Run<K>, seat: u16) -> Result<()> {
+fn finish_seat<K: Made>(run: &mut Run<K>, seat: u16) -> Result<()> {
     match run.plain.stage(seat) {
         Stage::Idle => {}
         Stage::Proof { .. } => {
@@ -22,8 +22,7 @@ fn put_off<K: Made>(run: &mut Run<K>, seat: u16) -> Result<()> {
             run.step(Call::Drop { seat })?;
         }
         Stage::Stamped { .. } => {
-            let left = run.plain.seat(seat).map_or(0, |of| of.unput());
-            for _ in 0..left {
+            for _ in 0..run.plain.unput(seat) {
                 run.step(Call::Put { seat })?;
             }
         }
@@ -46,7 +45,7 @@ fn collect_all<K: Made>(run: &mut Run<K>) -> Result<()> {
 // Brings a run to rest, and tries it.
 fn close<K: Made>(run: &mut Run<K>) -> Result<()> {
     for seat in 0..SEATS {
-        put_off(run, seat)?;
+        finish_seat(run, seat)?;
     }
     for seat in 0..SEATS {
         run.step(Call::Settle { seat })?;
@@ -57,7 +56,13 @@ fn close<K: Made>(run: &mut Run<K>) -> Result<()> {
     run.try_left()
 }
 
-fn thrown<K: Made>(run: &mut Run<K>, dice: &mut Dice, shape: &Shape, calls: u32) -> Result<()> {
+// Makes so many thrown calls.
+fn throw_calls<K: Made>(
+    run: &mut Run<K>,
+    dice: &mut Dice,
+    shape: &Shape,
+    calls: u32,
+) -> Result<()> {
     for _ in 0..calls {
         let call = next_call(dice, shape, &run.plain);
         run.step(call)?;
@@ -68,7 +73,7 @@ fn thrown<K: Made>(run: &mut Run<K>, dice: &mut Dice, shape: &Shape, calls: u32)
 // Gives so many times, by edits without drafts.
 fn pass_times<K: Made>(run: &mut Run<K>, times: u32) -> Result<()> {
     for time in 0..times {
-        let seat = (time % 16) as u16;
+        let seat = (time % u32::from(SEATS)) as u16;
         let calls = [
             Call::Edit { seat },
             Call::Lock { seat },
@@ -88,7 +93,7 @@ pub fn phase<K: Made>(alloc: Global, shape: &Shape, seed: u64, calls: u32) -> Re
     let mut run: Run<K> = Run::new(alloc, shape.sizes, shape.places)?;
     let mut dice = Dice::new(seed);
     pass_times(&mut run, shape.times)?;
-    thrown(&mut run, &mut dice, shape, calls)?;
+    throw_calls(&mut run, &mut dice, shape, calls)?;
     close(&mut run)?;
     run.try_again()
 }

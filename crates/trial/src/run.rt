@@ -25,19 +25,19 @@ const DEPTH: u32 = 8;
 
 // A call and what it got.
 #[derive(Clone, Copy)]
-struct Told {
+struct Event {
     call: Call,
     answer: Result<Answer, Refusal>,
 }
 
 #[derive(Drop)]
 pub struct Run<K: Made> {
-    pub store: Store<K>,
+    store: Store<K>,
     pub plain: Plain,
-    pub tally: Tally,
+    tally: Tally,
     law: Law,
-    history: Vec<Told>,
-    // The entries that the call touches, or its seat.
+    history: Vec<Event>,
+    // The entry that the call names; of a call that names none, those of its seat's drafts and reads.
     touched: Vec<u16>,
 }
 
@@ -117,7 +117,7 @@ impl<K: Made> Run<K> {
             answer == other && known,
             "call {calls}, {call:?}: {answer:?}, and the plain store {other:?}"
         );
-        self.history.push(Told { call, answer })?;
+        self.history.push(Event { call, answer })?;
         if self.history.len() >= KEPT {
             self.try_law()?;
         }
@@ -160,8 +160,8 @@ impl<K: Made> Run<K> {
 
     // Tries the law on the calls since it was tried last.
     pub fn try_law(&mut self) -> Result<()> {
-        for told in &self.history {
-            self.law.take(told.call, told.answer)?;
+        for event in &self.history {
+            self.law.take(event.call, event.answer)?;
         }
         self.history.clear();
         Ok(())
