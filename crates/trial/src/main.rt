@@ -17,7 +17,9 @@ mod run;
 mod seat;
 mod served;
 mod shape;
+mod stretch;
 mod tally;
+mod whole;
 
 use anyhow::{Context, Result, ensure};
 use linked::Linked;
@@ -26,6 +28,7 @@ use roll::Roll;
 use shape::{SHAPES, Shape};
 use std::env;
 use tally::Tally;
+use whole::try_run;
 
 // The seed, and how many calls each phase throws.
 #[derive(Clone, Copy)]
@@ -49,6 +52,16 @@ fn try_phase(rt: &HostRuntime, shape: &Shape, seed: u64, calls: u32) -> Result<T
     tally.print(rt)?;
     tally.add(&other);
     Ok(tally)
+}
+
+// A whole run over each keeper, of calls as the shape has them.
+fn try_runs(rt: &HostRuntime, shape: &Shape, seed: u64, calls: u16) -> Result<()> {
+    try_run::<Linked>(rt.alloc(), shape, seed, calls).context("over the linked keeper")?;
+    try_run::<Roll>(rt.alloc(), shape, seed, calls).context("over the roll keeper")?;
+    println!(rt;
+        "a whole run: {calls} calls over the linked keeper, {calls} over the roll keeper"
+    )?;
+    Ok(())
 }
 
 // All phases.
@@ -82,5 +95,6 @@ fn asked_length(rt: &HostRuntime) -> Result<Length> {
 
 fn main(rt: HostRuntime) -> Result<()> {
     let length = asked_length(&rt)?;
+    try_runs(&rt, &SHAPES[1], length.seed, 2000)?;
     try_phases(&rt, length)
 }

@@ -6,6 +6,7 @@ use crate::law::Law;
 use crate::made::Made;
 use crate::plain::Plain;
 use crate::refused::{entry_of, seat_of};
+use crate::stretch::Stretch;
 use crate::tally::Tally;
 use anyhow::{Result, bail, ensure};
 use cards::refusal::Refusal;
@@ -41,7 +42,7 @@ pub struct Run<K: Made> {
     touched: Vec<u16>,
 }
 
-fn sizes_of(sizes: [u16; 3]) -> Sizes {
+pub fn sizes_of(sizes: [u16; 3]) -> Sizes {
     let [letters, marks, pairs] = sizes;
     Sizes {
         letters: letters as usize,
@@ -111,6 +112,17 @@ impl<K: Made> Run<K> {
     fn answer(&mut self, call: Call) -> Result<Result<Answer, Refusal>> {
         let answer = self.store.apply(call);
         let other = self.plain.apply(call)?;
+        self.keep(call, answer, other)?;
+        Ok(answer)
+    }
+
+    // Compares what the stores answered to a call, counts it, and keeps it for the law.
+    fn keep(
+        &mut self,
+        call: Call,
+        answer: Result<Answer, Refusal>,
+        other: Result<Answer, Refusal>,
+    ) -> Result<()> {
         let known = self.tally.count(call, answer);
         let calls = self.tally.calls;
         ensure!(
@@ -121,7 +133,7 @@ impl<K: Made> Run<K> {
         if self.history.len() >= KEPT {
             self.try_law()?;
         }
-        Ok(answer)
+        Ok(())
     }
 
     // Makes the call on both stores, and compares all that it may change. Gives the answer.
@@ -147,6 +159,31 @@ impl<K: Made> Run<K> {
             let _ = self.answer(*call)?;
         }
         Ok(())
+    }
+
+    // Makes the calls of a stretch at once, which the plain store has answered, and compares the answers and everything.
+    pub fn hand_over(&mut self, stretch: &mut Stretch) -> Result<()> {
+        let result = self.store.apply_all(&stretch.calls, &mut stretch.answers);
+        ensure!(result.is_ok(), "a stretch is declined, {result:?}");
+        let answers = stretch.answers.iter().zip(stretch.wanted.iter());
+        for (call, (answer, wanted)) in stretch.calls.iter().zip(answers) {
+            self.keep(*call, *answer, *wanted)?;
+        }
+        self.compare_whole()
+    }
+
+    // The same calls with too few places for the answers: none is made, and nothing changes.
+    pub fn hand_over_short(
+        &mut self,
+        calls: &[Call],
+        few: &mut [Result<Answer, Refusal>],
+    ) -> Result<()> {
+        let result = self.store.apply_all(calls, few);
+        ensure!(
+            result == Err(Refusal::Short) && few.iter().all(|answer| *answer == Err(Refusal::Line)),
+            "a stretch with too few places answers {result:?}"
+        );
+        self.compare_whole()
     }
 
     // Everything that the stores hold is compared.
