@@ -1,4 +1,5 @@
-// The account: for each entry, the cards that stamped edits gave it, in the order of their times. It knows nothing of the store.
+// The cards of the account: for each entry, those that stamped edits gave it, in the order of their times. It knows nothing of the store.
+use crate::plain::ENTRIES;
 use cards::card::Card;
 use std::alloc::{AllocError, Global};
 
@@ -17,7 +18,7 @@ pub struct Account {
 impl Account {
     pub fn new(alloc: Global) -> Result<Account, AllocError> {
         let mut entries = Vec::new(alloc);
-        for _ in 0..1024 {
+        for _ in 0..ENTRIES {
             entries.push(Vec::new(alloc))?;
         }
         Ok(Account { entries })

@@ -13,7 +13,7 @@ fn field(dice: &mut Dice, map: u8, value: u8) -> Option<i16> {
     Some(dice.number())
 }
 
-// A card with some of the fields that the entry's kind may bear; seldom with any.
+// A card with some of the fields that the entry's kind may bear; seldom with any of the six.
 fn card(dice: &mut Dice, plain: &Plain, entry: u16) -> Card {
     let some = u8::try_from(dice.below(64)).unwrap_or(0);
     let map = if dice.chance(30) {
@@ -31,7 +31,7 @@ fn card(dice: &mut Dice, plain: &Plain, entry: u16) -> Card {
     }
 }
 
-// An entry of the store, often one of the first; seldom one out of range.
+// An entry of the store, at times one of the first four; seldom one out of range.
 fn entry(dice: &mut Dice, plain: &Plain) -> u16 {
     let entries = plain.entries();
     if dice.chance(10) {
@@ -88,7 +88,7 @@ fn any(dice: &mut Dice, plain: &Plain, seat: u16) -> Call {
 }
 
 fn of_edit(dice: &mut Dice, shape: &Shape, plain: &Plain, seat: u16) -> Call {
-    let empty = left_of(plain, seat) == 0;
+    let empty = plain.unput(seat) == 0;
     if dice.chance(shape.locks) && (!empty || dice.chance(100)) {
         return Call::Lock { seat };
     }
@@ -106,7 +106,7 @@ fn slowest(plain: &Plain) -> Option<u16> {
     let ready = plain.ready();
     for seat in 0..SEATS {
         if let Stage::Stamped { time, .. } = plain.stage(seat) {
-            if time.saturating_sub(1) == ready && left_of(plain, seat) > 0 {
+            if time.saturating_sub(1) == ready && plain.unput(seat) > 0 {
                 return Some(seat);
             }
         }
@@ -114,13 +114,9 @@ fn slowest(plain: &Plain) -> Option<u16> {
     None
 }
 
-fn left_of(plain: &Plain, seat: u16) -> usize {
-    plain.seat(seat).map_or(0, |of| of.unput())
-}
-
 // Where all is put, another seat may step in before the settle.
 fn of_stamped(dice: &mut Dice, plain: &Plain, seat: u16) -> Call {
-    if left_of(plain, seat) > 0 && !dice.chance(50) {
+    if plain.unput(seat) > 0 && !dice.chance(50) {
         return Call::Put { seat };
     }
     match slowest(plain) {

@@ -1,6 +1,5 @@
 // Compares the store under test with the plain one.
-use crate::plain::{Plain, SEATS};
-use cards::draft::Draft;
+use crate::plain::{ENTRIES, Plain, SEATS};
 use keepers::keeper::Keeper;
 use rules::stage::Stage;
 use store::Store;
@@ -8,7 +7,6 @@ use store::Store;
 // What differs, with the seat or the entry.
 #[derive(Clone, Copy, Debug)]
 pub enum Difference {
-    Answer,
     Clock,
     Stage(u16),
     Reads(u16),
@@ -20,14 +18,6 @@ pub enum Difference {
     Follower(u16),
 }
 
-fn same_reads(reads: &[u16], others: &[u16]) -> bool {
-    reads.len() == others.len() && reads.iter().zip(others.iter()).all(|(a, b)| *a == *b)
-}
-
-fn same_drafts(drafts: &[Draft], others: &[Draft]) -> bool {
-    drafts.len() == others.len() && drafts.iter().zip(others.iter()).all(|(a, b)| *a == *b)
-}
-
 // A seat's stage, reading list and drafts.
 fn compare_seat<K: Keeper>(store: &Store<K>, plain: &Plain, number: u16) -> Result<(), Difference> {
     let Some(seat) = plain.seat(number) else {
@@ -36,10 +26,10 @@ fn compare_seat<K: Keeper>(store: &Store<K>, plain: &Plain, number: u16) -> Resu
     if store.stage(number) != seat.stage {
         return Err(Difference::Stage(number));
     }
-    if !same_reads(store.reads(number), seat.reads.as_slice()) {
+    if store.reads(number) != seat.reads.as_slice() {
         return Err(Difference::Reads(number));
     }
-    if !same_drafts(store.drafts(number), seat.drafts.as_slice()) {
+    if store.drafts(number) != seat.drafts.as_slice() {
         return Err(Difference::Drafts(number));
     }
     Ok(())
@@ -95,10 +85,8 @@ pub fn compare_versions<K: Keeper>(
             return Ok(());
         }
         left = left.saturating_sub(1);
-        match keeper.find(entry, up_to) {
-            Some(found)
-                if found.entry == entry && found.time == held.time && found.card == held.card => {}
-            _ => return Err(Difference::Version(entry)),
+        if keeper.find(entry, up_to) != Some(*held) {
+            return Err(Difference::Version(entry));
         }
         if keeper.after(entry, held.time) != above {
             return Err(Difference::Follower(entry));
@@ -122,9 +110,7 @@ pub fn compare_at<K: Keeper>(
     entry: u16,
     time: u32,
 ) -> Result<(), Difference> {
-    let found = keeper.find(entry, time).map(|version| version.time);
-    let other = plain.newest(entry, time).map(|held| held.time);
-    if found != other {
+    if keeper.find(entry, time) != plain.newest(entry, time) {
         return Err(Difference::Version(entry));
     }
     if keeper.after(entry, time) != plain.next_time(entry, time) {
@@ -133,10 +119,10 @@ pub fn compare_at<K: Keeper>(
     Ok(())
 }
 
-// Everything: the state, all rows, and all versions.
+// Everything: the state, all rows, and all versions, with those of two entries that no store has.
 pub fn compare_all<K: Keeper>(store: &Store<K>, plain: &Plain) -> Result<(), Difference> {
     compare_state(store, plain)?;
-    for entry in 0..1026u16 {
+    for entry in 0..ENTRIES + 2 {
         compare_row(store, plain, entry)?;
         compare_versions(store.keeper(), plain, entry, u32::MAX)?;
     }

@@ -1,9 +1,9 @@
-// The law, tried on a run: what proofs and edits saw fits the stamped edits run one at a time in the order of their times. It is told
-// the calls and their answers, and nothing else.
+// The law, tried on a run: what proofs and edits saw fits the stamped edits run one at a time in the order of their times. It is told how
+// many entries there are, the calls and their answers; only what is left at the end is looked up in the keeper.
 use crate::account::Account;
-use crate::plain::SEATS;
+use crate::desk::{Desk, Open};
+use crate::plain::{ENTRIES, SEATS};
 use crate::refused::LAST_TIME;
-use crate::sitting::{Open, Sitting};
 use anyhow::{Result, bail, ensure};
 use cards::card::Card;
 use cards::refusal::Refusal;
@@ -21,35 +21,35 @@ pub struct Law {
     last: u32,
     // The greatest time of a settled edit.
     settled: u32,
-    seats: Vec<Sitting>,
+    desks: Vec<Desk>,
 }
 
 impl Law {
     pub fn new(alloc: Global, entries: u16) -> Result<Law, AllocError> {
-        let mut seats = Vec::new(alloc);
+        let mut desks = Vec::new(alloc);
         for _ in 0..SEATS {
-            seats.push(Sitting::new(alloc))?;
+            desks.push(Desk::new(alloc))?;
         }
         Ok(Law {
             entries,
             account: Account::new(alloc)?,
             last: 0,
             settled: 0,
-            seats,
+            desks,
         })
     }
 
-    fn sitting(&mut self, seat: u16) -> Result<&mut Sitting> {
-        match self.seats.get_mut(seat as usize) {
-            Some(sitting) => Ok(sitting),
+    fn desk(&mut self, seat: u16) -> Result<&mut Desk> {
+        match self.desks.get_mut(seat as usize) {
+            Some(desk) => Ok(desk),
             None => bail!("a seat that is none was served"),
         }
     }
 
     fn open_of(&self, seat: u16) -> Open {
-        self.seats
+        self.desks
             .get(seat as usize)
-            .map_or(Open::Nothing, |sitting| sitting.open)
+            .map_or(Open::Nothing, |desk| desk.open)
     }
 
     // The next call of the run, and what it got.
@@ -102,7 +102,7 @@ impl Law {
             start >= self.settled,
             "a proof starts before a settled edit"
         );
-        self.sitting(seat)?.begin(Open::Proof(start));
+        self.desk(seat)?.begin(Open::Proof(start));
         Ok(())
     }
 
@@ -111,12 +111,7 @@ impl Law {
             start == self.last,
             "an edit does not start at the last time"
         );
-        self.sitting(seat)?.begin(Open::Edit(start));
-        Ok(())
-    }
-
-    fn leave(&mut self, seat: u16) -> Result<()> {
-        self.sitting(seat)?.begin(Open::Nothing);
+        self.desk(seat)?.begin(Open::Edit(start));
         Ok(())
     }
 
@@ -128,12 +123,12 @@ impl Law {
             }
             Open::Edit(start) => {
                 let told = self.account.card_after(entry, start);
-                let sitting = self.sitting(seat)?;
-                match sitting.draft_of(entry) {
+                let desk = self.desk(seat)?;
+                match desk.draft_of(entry) {
                     Some(own) => ensure!(card == own, "an edit did not read its draft"),
                     None => {
                         ensure!(card == told, "an edit read another card");
-                        sitting.see(entry, card)?;
+                        desk.see(entry, card)?;
                     }
                 }
             }
@@ -143,20 +138,44 @@ impl Law {
     }
 
     fn write(&mut self, seat: u16, entry: u16, card: Card) -> Result<()> {
-        self.sitting(seat)?.draft(entry, card)?;
+        self.desk(seat)?.draft(entry, card)?;
         Ok(())
     }
 
     fn lock(&mut self, seat: u16, count: u32) -> Result<()> {
-        let sitting = self.sitting(seat)?;
+        let desk = self.desk(seat)?;
         ensure!(
-            sitting.drafts.len() == count as usize,
+            desk.drafts.len() == count as usize,
             "a lock does not count the drafts"
         );
         Ok(())
     }
 
-    // What the edit read stands until just before its time; from its time on, its drafts stand.
+    // Whether what the edit read stands until just before the next time.
+    fn seen_stands(&self, seat: u16, start: u32) -> bool {
+        let Some(desk) = self.desks.get(seat as usize) else {
+            return false;
+        };
+        for seen in &desk.seen {
+            if !self.account.stands(seen.entry, start, seen.card) {
+                return false;
+            }
+        }
+        true
+    }
+
+    // From the edit's time on, its drafts stand.
+    fn replace_cards(&mut self, seat: u16, time: u32) -> Result<()> {
+        let Some(desk) = self.desks.get_mut(seat as usize) else {
+            bail!("a seat that is none was stamped")
+        };
+        desk.open = Open::Stamped(time);
+        for draft in &desk.drafts {
+            self.account.replace(draft.entry, time, draft.card)?;
+        }
+        Ok(())
+    }
+
     fn stamp(&mut self, seat: u16, time: u32) -> Result<()> {
         let Open::Edit(start) = self.open_of(seat) else {
             bail!("a stamp was granted to no open edit")
@@ -166,31 +185,22 @@ impl Law {
             "a stamp is not the next time"
         );
         ensure!(time <= LAST_TIME, "the clock is past its end");
+        ensure!(
+            self.seen_stands(seat, start),
+            "a read does not stand until the stamp"
+        );
         self.last = time;
-        let Some(sitting) = self.seats.get_mut(seat as usize) else {
-            bail!("a seat that is none was stamped")
-        };
-        sitting.open = Open::Stamped(time);
-        for seen in &sitting.seen {
-            ensure!(
-                self.account.stands(seen.entry, start, seen.card),
-                "a read does not stand until the stamp"
-            );
-        }
-        for draft in &sitting.drafts {
-            self.account.replace(draft.entry, time, draft.card)?;
-        }
-        Ok(())
+        self.replace_cards(seat, time)
     }
 
     fn put(&mut self, seat: u16, left: u32) -> Result<()> {
-        let sitting = self.sitting(seat)?;
+        let desk = self.desk(seat)?;
         ensure!(
-            matches!(sitting.open, Open::Stamped(_)),
+            matches!(desk.open, Open::Stamped(_)),
             "a put was granted to no stamped edit"
         );
         ensure!(
-            sitting.count_put() == Some(left as usize),
+            desk.count_put() == Some(left as usize),
             "a put does not count the drafts left"
         );
         Ok(())
@@ -205,10 +215,15 @@ impl Law {
         self.leave(seat)
     }
 
+    fn leave(&mut self, seat: u16) -> Result<()> {
+        self.desk(seat)?.begin(Open::Nothing);
+        Ok(())
+    }
+
     // Once all is settled and collected: one version of each entry that a stamped edit drafted, with its card after the last time.
     pub fn check_left<K: Keeper>(&self, keeper: &K) -> Result<()> {
         let mut drafted = 0u32;
-        for entry in 0..1024u16 {
+        for entry in 0..ENTRIES {
             let oldest = keeper.after(entry, 0);
             if !self.account.is_drafted(entry) {
                 ensure!(

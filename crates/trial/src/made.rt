@@ -6,27 +6,17 @@ use roll::Roll;
 use std::alloc::{AllocError, Global};
 
 pub trait Made: Keeper + Drop {
-    fn name() -> &'static str;
-
     // An empty keeper with so many places.
     fn made(alloc: Global, places: usize) -> Result<Self, AllocError>;
 }
 
 impl Made for Linked {
-    fn name() -> &'static str {
-        "linked"
-    }
-
     fn made(alloc: Global, places: usize) -> Result<Linked, AllocError> {
         Ok(Linked::new(vec![in alloc; Place::empty(); places]?))
     }
 }
 
 impl Made for Roll {
-    fn name() -> &'static str {
-        "roll"
-    }
-
     fn made(alloc: Global, places: usize) -> Result<Roll, AllocError> {
         Ok(Roll::new(vec![in alloc; Version::default(); places]?))
     }

@@ -1,10 +1,12 @@
-// What proofs cannot say is tried: long runs of calls are made on a store over each keeper and on a plain store, written apart from
-// it, and compared after each call; then the law is tried on the answers. A seed and a number of calls for each phase may be given.
+// What no contract says is tried: that a store does what docs/RULES.md and docs/REFUSALS.md say in words. Long runs of calls are made on a
+// store over each keeper and on a plain store, written apart from it, and their answers are compared call by call, mostly with all that
+// the call may change; then the law is tried on the answers. A seed and a number of calls for each phase may be given.
 #![tactic(auto)]
 
 mod account;
 mod choice;
 mod compare;
+mod desk;
 mod dice;
 mod law;
 mod made;
@@ -15,9 +17,9 @@ mod run;
 mod seat;
 mod served;
 mod shape;
-mod sitting;
+mod stretch;
 mod tally;
-mod worked;
+mod whole;
 
 use anyhow::{Context, Result, ensure};
 use linked::Linked;
@@ -26,7 +28,7 @@ use roll::Roll;
 use shape::{SHAPES, Shape};
 use std::env;
 use tally::Tally;
-use worked::{try_cases, try_script};
+use whole::try_run;
 
 // The seed, and how many calls each phase throws.
 #[derive(Clone, Copy)]
@@ -50,6 +52,16 @@ fn try_phase(rt: &HostRuntime, shape: &Shape, seed: u64, calls: u32) -> Result<T
     tally.print(rt)?;
     tally.add(&other);
     Ok(tally)
+}
+
+// A whole run over each keeper, of calls as the shape has them.
+fn try_runs(rt: &HostRuntime, shape: &Shape, seed: u64, calls: u16) -> Result<()> {
+    try_run::<Linked>(rt.alloc(), shape, seed, calls).context("over the linked keeper")?;
+    try_run::<Roll>(rt.alloc(), shape, seed, calls).context("over the roll keeper")?;
+    println!(rt;
+        "a whole run: {calls} calls over the linked keeper, {calls} over the roll keeper"
+    )?;
+    Ok(())
 }
 
 // All phases.
@@ -83,8 +95,6 @@ fn asked_length(rt: &HostRuntime) -> Result<Length> {
 
 fn main(rt: HostRuntime) -> Result<()> {
     let length = asked_length(&rt)?;
-    try_script(&rt)?;
-    try_cases::<Linked>(&rt)?;
-    try_cases::<Roll>(&rt)?;
+    try_runs(&rt, &SHAPES[1], length.seed, 2000)?;
     try_phases(&rt, length)
 }

@@ -2,6 +2,7 @@
 // row would say is looked up among the versions and the seats.
 use crate::seat::Seat;
 use cards::card::Card;
+use keepers::version::Version;
 use rules::row::Row;
 use rules::stage::Stage;
 use std::alloc::{AllocError, Global};
@@ -9,13 +10,8 @@ use std::alloc::{AllocError, Global};
 // How many seats there are.
 pub const SEATS: u16 = 16;
 
-// A version: what the entry looks like from the time on.
-#[derive(Clone, Copy)]
-pub struct Held {
-    pub entry: u16,
-    pub time: u32,
-    pub card: Card,
-}
+// How many entries a store has at most.
+pub const ENTRIES: u16 = 1024;
 
 #[derive(Drop)]
 pub struct Plain {
@@ -25,7 +21,7 @@ pub struct Plain {
     pub places: usize,
     pub clock: u32,
     pub seats: Vec<Seat>,
-    pub versions: Vec<Held>,
+    pub versions: Vec<Version>,
 }
 
 fn bit(field: Option<i16>, value: u8) -> u8 {
@@ -49,7 +45,11 @@ impl Plain {
             seats.push(Seat::idle(alloc))?;
         }
         let sum = sizes[0] as u32 + sizes[1] as u32 + sizes[2] as u32;
-        let [letters, marks, pairs] = if sum <= 1024 { sizes } else { [0, 0, 0] };
+        let [letters, marks, pairs] = if sum <= u32::from(ENTRIES) {
+            sizes
+        } else {
+            [0, 0, 0]
+        };
         Ok(Plain {
             letters,
             marks,
@@ -87,9 +87,14 @@ impl Plain {
         self.seat(number).map_or(Stage::Idle, |seat| seat.stage)
     }
 
+    // How many drafts of the seat are not put yet.
+    pub fn unput(&self, number: u16) -> usize {
+        self.seat(number).map_or(0, |seat| seat.unput())
+    }
+
     // The version of the entry with the greatest time up to the stated one.
-    pub fn newest(&self, entry: u16, up_to: u32) -> Option<Held> {
-        let mut found: Option<Held> = None;
+    pub fn newest(&self, entry: u16, up_to: u32) -> Option<Version> {
+        let mut found: Option<Version> = None;
         for held in &self.versions {
             let above = found.map_or(0, |other| other.time);
             if held.entry == entry && held.time <= up_to && held.time > above {

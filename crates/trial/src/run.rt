@@ -6,6 +6,7 @@ use crate::law::Law;
 use crate::made::Made;
 use crate::plain::Plain;
 use crate::refused::{entry_of, seat_of};
+use crate::stretch::Stretch;
 use crate::tally::Tally;
 use anyhow::{Result, bail, ensure};
 use cards::refusal::Refusal;
@@ -25,23 +26,23 @@ const DEPTH: u32 = 8;
 
 // A call and what it got.
 #[derive(Clone, Copy)]
-struct Told {
+struct Event {
     call: Call,
     answer: Result<Answer, Refusal>,
 }
 
 #[derive(Drop)]
 pub struct Run<K: Made> {
-    pub store: Store<K>,
+    store: Store<K>,
     pub plain: Plain,
-    pub tally: Tally,
+    tally: Tally,
     law: Law,
-    history: Vec<Told>,
-    // The entries that the call touches, or its seat.
+    history: Vec<Event>,
+    // The entry that the call names; of a call that names none, those of its seat's drafts and reads.
     touched: Vec<u16>,
 }
 
-fn sizes_of(sizes: [u16; 3]) -> Sizes {
+pub fn sizes_of(sizes: [u16; 3]) -> Sizes {
     let [letters, marks, pairs] = sizes;
     Sizes {
         letters: letters as usize,
@@ -111,17 +112,28 @@ impl<K: Made> Run<K> {
     fn answer(&mut self, call: Call) -> Result<Result<Answer, Refusal>> {
         let answer = self.store.apply(call);
         let other = self.plain.apply(call)?;
+        self.keep(call, answer, other)?;
+        Ok(answer)
+    }
+
+    // Compares what the stores answered to a call, counts it, and keeps it for the law.
+    fn keep(
+        &mut self,
+        call: Call,
+        answer: Result<Answer, Refusal>,
+        other: Result<Answer, Refusal>,
+    ) -> Result<()> {
         let known = self.tally.count(call, answer);
         let calls = self.tally.calls;
         ensure!(
             answer == other && known,
             "call {calls}, {call:?}: {answer:?}, and the plain store {other:?}"
         );
-        self.history.push(Told { call, answer })?;
+        self.history.push(Event { call, answer })?;
         if self.history.len() >= KEPT {
             self.try_law()?;
         }
-        Ok(answer)
+        Ok(())
     }
 
     // Makes the call on both stores, and compares all that it may change. Gives the answer.
@@ -149,6 +161,31 @@ impl<K: Made> Run<K> {
         Ok(())
     }
 
+    // Makes the calls of a stretch at once, which the plain store has answered, and compares the answers and everything.
+    pub fn hand_over(&mut self, stretch: &mut Stretch) -> Result<()> {
+        let result = self.store.apply_all(&stretch.calls, &mut stretch.answers);
+        ensure!(result.is_ok(), "a stretch is declined, {result:?}");
+        let answers = stretch.answers.iter().zip(stretch.wanted.iter());
+        for (call, (answer, wanted)) in stretch.calls.iter().zip(answers) {
+            self.keep(*call, *answer, *wanted)?;
+        }
+        self.compare_whole()
+    }
+
+    // The same calls with too few places for the answers: none is made, and nothing changes.
+    pub fn hand_over_short(
+        &mut self,
+        calls: &[Call],
+        few: &mut [Result<Answer, Refusal>],
+    ) -> Result<()> {
+        let result = self.store.apply_all(calls, few);
+        ensure!(
+            result == Err(Refusal::Short) && few.iter().all(|answer| *answer == Err(Refusal::Line)),
+            "a stretch with too few places answers {result:?}"
+        );
+        self.compare_whole()
+    }
+
     // Everything that the stores hold is compared.
     pub fn compare_whole(&self) -> Result<()> {
         if let Err(difference) = compare_all(&self.store, &self.plain) {
@@ -160,8 +197,8 @@ impl<K: Made> Run<K> {
 
     // Tries the law on the calls since it was tried last.
     pub fn try_law(&mut self) -> Result<()> {
-        for told in &self.history {
-            self.law.take(told.call, told.answer)?;
+        for event in &self.history {
+            self.law.take(event.call, event.answer)?;
         }
         self.history.clear();
         Ok(())

@@ -1,7 +1,8 @@
 // What a call does to the plain store, and what it answers.
-use crate::plain::{Held, Plain};
+use crate::plain::Plain;
 use cards::card::Card;
 use cards::refusal::Refusal;
+use keepers::version::Version;
 use rules::answer::Answer;
 use rules::call::Call;
 use rules::stage::Stage;
@@ -97,15 +98,14 @@ impl Plain {
 
     // How many drafts of the seat are not put.
     fn left(&self, number: u16) -> Answer {
-        let count = self.seat(number).map_or(0, |seat| seat.unput());
-        Answer::Number(u32::try_from(count).unwrap_or(u32::MAX))
+        Answer::Number(u32::try_from(self.unput(number)).unwrap_or(u32::MAX))
     }
 
     fn put(&mut self, number: u16) -> Result<Answer, AllocError> {
         if let Stage::Stamped { time, put } = self.stage(number) {
             let seat = self.seat(number);
             if let Some(draft) = seat.and_then(|seat| seat.drafts.get(put as usize)).copied() {
-                self.versions.push(Held {
+                self.versions.push(Version {
                     entry: draft.entry,
                     time,
                     card: draft.card,

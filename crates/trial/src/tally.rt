@@ -10,7 +10,7 @@ const NAMES: [&str; 11] = [
     "proof", "edit", "read", "write", "lock", "stamp", "put", "settle", "drop", "end", "collect",
 ];
 
-// The numbers of the refusals that a store's calls may give, and 0 for a granted call.
+// How many numbers an answer may have: 0 if granted, or a refusal's, 1 to 12.
 const NUMBERS: usize = 13;
 
 #[derive(Drop)]
@@ -23,11 +23,11 @@ impl Tally {
     pub fn new(alloc: Global) -> Result<Tally, AllocError> {
         Ok(Tally {
             calls: 0,
-            counts: vec![in alloc; 0; 11 * NUMBERS]?,
+            counts: vec![in alloc; 0; NAMES.len() * NUMBERS]?,
         })
     }
 
-    // Says whether the answer has a number of the table.
+    // Counts the answer, and says whether its number is in the table.
     pub fn count(&mut self, call: Call, answer: Result<Answer, Refusal>) -> bool {
         let number = number(answer) as usize;
         let place = (call.number() as usize)
@@ -49,7 +49,7 @@ impl Tally {
     }
 
     // How often any call got the number.
-    pub fn all_of(&self, number: usize) -> u64 {
+    fn all_of(&self, number: usize) -> u64 {
         let mut sum = 0u64;
         for call in 0..NAMES.len() {
             sum = sum.saturating_add(self.at(call, number));

@@ -22,7 +22,7 @@ pub struct Seen {
 }
 
 #[derive(Drop)]
-pub struct Sitting {
+pub struct Desk {
     pub open: Open,
     pub drafts: Vec<Draft>,
     pub seen: Vec<Seen>,
@@ -30,9 +30,9 @@ pub struct Sitting {
     puts: usize,
 }
 
-impl Sitting {
-    pub fn new(alloc: Global) -> Sitting {
-        Sitting {
+impl Desk {
+    pub fn new(alloc: Global) -> Desk {
+        Desk {
             open: Open::Nothing,
             drafts: Vec::new(alloc),
             seen: Vec::new(alloc),
