@@ -1,5 +1,5 @@
 // Collects of entries whose old versions none needs, until each has its newest left.
-use crate::kinds::Kind;
+use crate::made::Made;
 use crate::rounds::{Extent, Pace, Round, since, tell};
 use crate::saves::{filled, save_some};
 use keepers::keeper::Keeper;
@@ -7,31 +7,43 @@ use std::io;
 use std::time::Instant;
 use store::Store;
 
-// Collects each entry so often, one after the other, and adds up the times that are answered.
-fn collect_all<K: Keeper>(store: &mut Store<K>, entries: &[u16], times: u32) -> Round {
+// Collects each entry once, and adds up the times that are answered.
+fn collect_each<K: Keeper>(store: &mut Store<K>, entries: &[u16]) -> Round {
     let mut round = Round::NONE;
-    for _ in 0..times {
-        for entry in entries {
-            if let Ok(time) = store.collect(*entry) {
-                round.sum = round.sum.wrapping_add(u64::from(time));
-                round.operations = round.operations.wrapping_add(1);
-            }
+    for entry in entries {
+        if let Ok(time) = store.collect(*entry) {
+            round.sum = round.sum.wrapping_add(u64::from(time));
+            round.operations = round.operations.wrapping_add(1);
         }
     }
     round
 }
 
-// Saves so many versions of each entry, the entries taking turns.
-fn fill<K: Keeper>(store: &mut Store<K>, entries: &[u16], versions: u32) {
-    for number in 0..versions {
-        for entry in entries {
-            save_some(store, *entry, number, 1);
-        }
+// The same, so often.
+fn collect_all<K: Keeper>(store: &mut Store<K>, entries: &[u16], times: u32) -> Round {
+    let mut round = Round::NONE;
+    for _ in 0..times {
+        round = round.and(collect_each(store, entries));
+    }
+    round
+}
+
+// Saves a version of each entry.
+fn save_each<K: Keeper>(store: &mut Store<K>, entries: &[u16], number: u32) {
+    for entry in entries {
+        save_some(store, *entry, number, 1);
     }
 }
 
-// Rounds of batches on new stores, since a store's clock goes up to a million.
-fn round<K: Kind>(
+// Saves so many versions of each entry, the entries taking turns.
+fn fill<K: Keeper>(store: &mut Store<K>, entries: &[u16], versions: u32) {
+    for number in 0..versions {
+        save_each(store, entries, number);
+    }
+}
+
+// One round of batches, on a new store, since its clock goes up to a million.
+fn round<K: Made>(
     rt: &HostRuntime,
     pace: Pace,
     entries: &[u16],
@@ -54,7 +66,7 @@ fn round<K: Kind>(
 }
 
 // The best round of collects of so many entries with so many versions.
-pub fn collecting<K: Kind>(
+pub fn collecting<K: Made>(
     rt: &HostRuntime,
     pace: Pace,
     entries: u16,

@@ -1,26 +1,26 @@
-// What a store costs over each of the two keepers: a proof's reads, whole saves of one draft, and collects. Alone the program makes a few of
-// each, and prints how many there were and a sum of what they answered; with any word behind its name it makes many, and prints beside
+// What a store costs over each of the two keepers: a proof's reads, whole saves of one draft, and collects. Alone the program makes a few
+// of each, and prints how many there were and a sum of what they answered; with any word behind its name it makes many, and prints beside
 // these the nanoseconds that the best round took. The programs of bench/ run the same workloads elsewhere, and print the same lines.
 #![tactic(auto)]
 
 mod collecting;
-mod kinds;
+mod made;
 mod reading;
 mod rounds;
 mod saves;
 mod saving;
 
 use collecting::collecting;
-use kinds::Kind;
 use linked::Linked;
+use made::Made;
 use reading::reading;
 use roll::Roll;
 use rounds::Pace;
 use saving::saving;
 use std::{env, io};
 
-// Every workload over one kind of keeper.
-fn all<K: Kind>(rt: &HostRuntime, pace: Pace) -> io::Result<()> {
+// Every workload over one keeper.
+fn all<K: Made>(rt: &HostRuntime, pace: Pace) -> io::Result<()> {
     for entries in [1, 1024] {
         for versions in [1, 10, 1000] {
             reading::<K>(rt, pace, entries, versions)?;

@@ -1,5 +1,5 @@
 // Reads of one entry by a proof: one that began when the entry had a single version, and one that began when it had all.
-use crate::kinds::Kind;
+use crate::made::Made;
 use crate::rounds::{Extent, Pace, Round, since, tell};
 use crate::saves::{filled, save_some};
 use keepers::keeper::Keeper;
@@ -16,16 +16,23 @@ struct Look {
 
 const LOOKS: usize = 64;
 
-// Reads all that is asked, so often, and adds the advances up.
+// Reads all that is asked, and adds the advances up.
+fn read_each<K: Keeper>(store: &mut Store<K>, looks: &[Look]) -> u64 {
+    let mut sum = 0u64;
+    for look in looks {
+        if let Ok(card) = store.read(look.seat, look.entry) {
+            let advance = card.advance.unwrap_or(0).unsigned_abs();
+            sum = sum.wrapping_add(u64::from(advance));
+        }
+    }
+    sum
+}
+
+// The same, so often.
 fn read_all<K: Keeper>(store: &mut Store<K>, looks: &[Look], passes: u64) -> u64 {
     let mut sum = 0u64;
     for _ in 0..passes {
-        for look in looks {
-            if let Ok(card) = store.read(look.seat, look.entry) {
-                let advance = card.advance.unwrap_or(0).unsigned_abs();
-                sum = sum.wrapping_add(u64::from(advance));
-            }
-        }
+        sum = sum.wrapping_add(read_each(store, looks));
     }
     sum
 }
@@ -81,7 +88,7 @@ fn best<K: Keeper>(
 }
 
 // Both reads of an entry with so many versions, where each of the others has one.
-pub fn reading<K: Kind>(
+pub fn reading<K: Made>(
     rt: &HostRuntime,
     pace: Pace,
     entries: u16,

@@ -2,13 +2,16 @@
 use std::io;
 use std::time::Instant;
 
-// How many rounds there are, how long one takes at least, how many batches one has where it goes by batches, and whether the time is
-// printed.
+// How much is done of a workload.
 #[derive(Clone, Copy)]
 pub struct Pace {
+    // Whether the time is printed.
     pub timed: bool,
+    // How many rounds there are; the best is told.
     pub rounds: u32,
+    // After so many nanoseconds a round of reads or of collects is long enough.
     pub least: u64,
+    // How many batches a round of saves has, and a round of collects at most.
     pub batches: u32,
 }
 
@@ -23,7 +26,7 @@ impl Pace {
     pub const LONG: Pace = Pace {
         timed: true,
         rounds: 40,
-        least: 5000000,
+        least: 5_000_000,
         batches: 600,
     };
 }

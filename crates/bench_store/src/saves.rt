@@ -1,5 +1,5 @@
 // Saving, by the calls that it takes.
-use crate::kinds::{Kind, opened};
+use crate::made::{Made, opened};
 use cards::card::Card;
 use cards::refusal::Refusal;
 use keepers::keeper::Keeper;
@@ -34,7 +34,7 @@ pub fn save<K: Keeper>(store: &mut Store<K>, wish: Wish) -> Result<u32, Refusal>
     store.settle(seat)
 }
 
-// Saves so many versions of an entry, numbered from one on; their cards bear the numbers.
+// Saves so many versions of an entry, numbered from `first` on; their cards bear the numbers, modulo 1,001.
 pub fn save_some<K: Keeper>(store: &mut Store<K>, entry: u16, first: u32, versions: u32) {
     for number in first..first.saturating_add(versions) {
         let wish = Wish {
@@ -47,7 +47,7 @@ pub fn save_some<K: Keeper>(store: &mut Store<K>, entry: u16, first: u32, versio
 }
 
 // A store of so many letters, with a version of each.
-pub fn filled<K: Kind>(alloc: Global, letters: u16) -> Result<Store<K>, AllocError> {
+pub fn filled<K: Made>(alloc: Global, letters: u16) -> Result<Store<K>, AllocError> {
     let mut store = opened::<K>(alloc, usize::from(letters))?;
     for entry in 0..letters {
         save_some(&mut store, entry, 1, 1);

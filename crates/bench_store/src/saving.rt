@@ -1,5 +1,5 @@
 // Whole saves of one draft: batches of them, with the collects between the batches and not timed; and each with its collect.
-use crate::kinds::Kind;
+use crate::made::Made;
 use crate::rounds::{Extent, Pace, Round, since, tell};
 use crate::saves::{Wish, filled, letter, save};
 use keepers::keeper::Keeper;
@@ -58,7 +58,7 @@ fn batch<K: Keeper>(
 }
 
 // One round on a new store, since its clock goes up to a million.
-fn round<K: Kind>(
+fn round<K: Made>(
     rt: &HostRuntime,
     pace: Pace,
     entries: u16,
@@ -79,7 +79,7 @@ fn round<K: Kind>(
     Ok(all)
 }
 
-fn best<K: Kind>(
+fn best<K: Made>(
     rt: &HostRuntime,
     pace: Pace,
     entries: u16,
@@ -93,7 +93,7 @@ fn best<K: Kind>(
 }
 
 // Both kinds of save, in a store of so many entries with one version each.
-pub fn saving<K: Kind>(rt: &HostRuntime, pace: Pace, entries: u16) -> io::Result<()> {
+pub fn saving<K: Made>(rt: &HostRuntime, pace: Pace, entries: u16) -> io::Result<()> {
     let extent = Extent {
         entries,
         versions: 1,

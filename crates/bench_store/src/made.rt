@@ -1,4 +1,4 @@
-// The two kinds of keeper, as the workloads make them.
+// The keepers that the workloads make.
 use keepers::keeper::Keeper;
 use keepers::version::Version;
 use linked::{Linked, Place};
@@ -9,41 +9,40 @@ use store::{Sizes, Store};
 // How many versions a keeper of a workload has places for.
 const PLACES: usize = 2048;
 
-// A keeper that can be made by itself.
-pub trait Kind: Keeper + Drop {
+pub trait Made: Keeper + Drop {
     // What its lines begin with.
     fn name() -> &'static str;
 
-    // One without a version.
-    fn empty(alloc: Global) -> Result<Self, AllocError>;
+    // An empty keeper.
+    fn made(alloc: Global) -> Result<Self, AllocError>;
 }
 
-impl Kind for Linked {
+impl Made for Linked {
     fn name() -> &'static str {
         "store-linked"
     }
 
-    fn empty(alloc: Global) -> Result<Linked, AllocError> {
+    fn made(alloc: Global) -> Result<Linked, AllocError> {
         Ok(Linked::new(vec![in alloc; Place::empty(); PLACES]?))
     }
 }
 
-impl Kind for Roll {
+impl Made for Roll {
     fn name() -> &'static str {
         "store-roll"
     }
 
-    fn empty(alloc: Global) -> Result<Roll, AllocError> {
+    fn made(alloc: Global) -> Result<Roll, AllocError> {
         Ok(Roll::new(vec![in alloc; Version::default(); PLACES]?))
     }
 }
 
 // A store of so many letters over an empty keeper.
-pub fn opened<K: Kind>(alloc: Global, letters: usize) -> Result<Store<K>, AllocError> {
+pub fn opened<K: Made>(alloc: Global, letters: usize) -> Result<Store<K>, AllocError> {
     let sizes = Sizes {
         letters,
         marks: 0,
         pairs: 0,
     };
-    Ok(Store::new(K::empty(alloc)?, sizes))
+    Ok(Store::new(K::made(alloc)?, sizes))
 }
