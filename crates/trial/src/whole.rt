@@ -1,6 +1,7 @@
 // A whole run: calls that were thrown on a plain store are made by `run`, on a new store over a keeper.
 use crate::compare::compare_all;
 use crate::dice::Dice;
+use crate::law::Law;
 use crate::made::Made;
 use crate::plain::Plain;
 use crate::run::sizes_of;
@@ -10,6 +11,15 @@ use anyhow::{Result, bail, ensure};
 use cards::refusal::Refusal;
 use std::alloc::Global;
 use store::run::run;
+
+// The law, tried on the answers.
+fn try_law(alloc: Global, entries: u16, stretch: &Stretch) -> Result<()> {
+    let mut law = Law::new(alloc, entries)?;
+    for (call, answer) in stretch.calls.iter().zip(stretch.answers.iter()) {
+        law.take(*call, *answer)?;
+    }
+    Ok(())
+}
 
 // Makes so many calls by `run`; before that, where the answers have a place too few, none.
 pub fn try_run<K: Made>(alloc: Global, shape: &Shape, seed: u64, calls: u16) -> Result<()> {
@@ -33,5 +43,5 @@ pub fn try_run<K: Made>(alloc: Global, shape: &Shape, seed: u64, calls: u16) -> 
     if let Err(difference) = compare_all(&store, &plain) {
         bail!("after a run the stores differ, {difference:?}")
     }
-    Ok(())
+    try_law(alloc, plain.entries(), &stretch)
 }
