@@ -1,7 +1,7 @@
 #!/bin/sh
 # Tries the misuses of each crate that has some (crates/NAME/misuses) on a copy of what is committed: the compiler has to refuse each,
-# first of all by what it says. They are no edits for must-fail/, since those have to reach the prover: here there is no such call, or
-# the ticket is gone.
+# and the first thing that it says must be the line `says:` of the misuse. They are no edits for must-fail/, since those have to reach
+# the prover: here there is no such call, or the ticket is gone.
 set -eu
 cd "$(dirname "$0")/.."
 copy=$(mktemp -d)

@@ -1,6 +1,8 @@
 #!/bin/sh
 # Counts, in the code of a commit (HEAD without one), the lines where an older form may stand, each point by its patterns.
-# With -v it prints the lines too. docs/DESIGN-PASS.md says which of them are places and what became of each.
+# With -v it prints the lines too. docs/DESIGN-PASS.md says which of them are places and what became of each. The last line counts the
+# proofs of the five crates that the pass went over; those that came later are not in it.
+cd "$(dirname "$0")/.."
 verbose=
 if [ "$1" = -v ]; then verbose=1; shift; fi
 commit=${1:-HEAD}

@@ -1,7 +1,7 @@
 -- What is known of a stamped ticket that could not be settled.
 use Rattle.std.specs.Prelude.{◌<◌}
-use Rattle.booking.specs.declared.unsaved.Unsaved.{Unsaved}
-use Rattle.booking.specs.declared.unsaved.Unsaved.TheVariants.{Gone, Open, Locked, Stamped}
+use Rattle.saving.specs.declared.unsaved.Unsaved.{Unsaved}
+use Rattle.saving.specs.declared.unsaved.Unsaved.TheVariants.{Gone, Open, Locked, Stamped}
 use Rattle.tickets.specs.Given.{named}
 use Rattle.tickets.specs.declared.declined.Declined.{Declined}
 use Rattle.tickets.specs.declared.declined.Declined.TheVariants.{Back, TakenIn}

@@ -3,9 +3,9 @@ ghost use Rattle.std.specs.Prelude.{IfErr};
 ghost use Rattle.booking.specs.Left.{Seated, SeatedLeft};
 
 use crate::clerk::Clerk;
-use crate::unsaved::Unsaved;
 use cards::refusal::Refusal;
 use keepers::keeper::Keeper;
+use saving::unsaved::Unsaved;
 use tickets::declined::Declined;
 use tickets::edit::EditTicket;
 use tickets::stamped::StampedTicket;
@@ -43,6 +43,7 @@ impl<K: Keeper> Clerk<'_, K> {
                 self.closed("drop", outcome);
             }
             Unsaved::Stamped { why, ticket } => {
+                // No other edit is open that one could wait for.
                 self.refuse("put or settle", why, "the store is closed");
                 return Err(ticket);
             }

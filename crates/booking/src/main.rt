@@ -1,15 +1,14 @@
-// A letter's anchor is moved to a mark's, in one edit that goes through its tickets from start to finish. Another edit overtakes it
-// once. Every action is printed, and every refusal with what is done about it.
+// A letter's anchor is moved to a mark's, and a kern set beside it, in one edit through tickets. The mark's own edit overtakes it,
+// so it is dropped and begins again. Every action is printed, and every refusal with what is done about it.
 #![tactic(auto)]
 
 mod clerk;
 mod closing;
 mod entries;
 mod giving_up;
-mod saving;
 mod scenes;
+mod settling;
 mod steps;
-mod unsaved;
 
 use clerk::Clerk;
 use closing::close;

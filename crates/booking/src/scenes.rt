@@ -1,5 +1,5 @@
 // The scenes: an edit that is overtaken begins again and is saved, and a proof reads what it wrote.
-ghost use Rattle.std.specs.Prelude.{◌≡◌, ◌<◌, IfErr, IfSome};
+ghost use Rattle.std.specs.Prelude.{◌<◌, IfErr, IfSome};
 ghost use Rattle.booking.specs.Left.{Seated};
 
 use crate::clerk::Clerk;
@@ -35,31 +35,32 @@ impl<K: Keeper> Clerk<'_, K> {
     }
 
     // Another edit, which writes the mark.
-    fn overtake(&mut self) -> Result<bool, StampedTicket>
+    fn overtake(&mut self) -> Result<(), StampedTicket>
         ensures { IfErr result Seated }
     {
-        let Some(ticket) = self.open(OTHER) else {
-            return Ok(false);
+        let Some(ticket) = self.open_edit(OTHER) else {
+            return Ok(());
         };
         if let Err(why) = self.write(&ticket, MARK, mark_card()) {
             self.drop_open("write", why, ticket);
-            return Ok(false);
+            return Ok(());
         }
-        self.finish(ticket)
+        self.finish(ticket)?;
+        Ok(())
     }
 
     // Reads the mark, and drafts the letter and the pair.
     fn draft(&mut self, ticket: &EditTicket) -> Result<(), Refusal> {
-        let mark = self.read(ticket, MARK)?;
+        let mark = self.read_edit(ticket, MARK)?;
         self.write(ticket, LETTER, letter_card(mark))?;
         self.write(ticket, PAIR, pair_card())
     }
 
     // The letter's edit up to its drafts, where it comes so far.
     fn drafted(&mut self) -> Option<EditTicket>
-        ensures { IfSome result (λ ticket. ticket.seat ≡ 2) }
+        ensures { IfSome result (λ ticket. ticket.seat < 16) }
     {
-        let ticket = self.open(DESIGNER)?;
+        let ticket = self.open_edit(DESIGNER)?;
         if let Err(why) = self.draft(&ticket) {
             self.drop_open("read or write", why, ticket);
             return None;
@@ -81,21 +82,21 @@ impl<K: Keeper> Clerk<'_, K> {
     }
 
     // The letter's edit, with none beside it.
-    fn again(&mut self) -> Result<bool, StampedTicket>
+    fn again(&mut self) -> Result<(), StampedTicket>
         ensures { IfErr result Seated }
     {
-        match self.drafted() {
-            Some(ticket) => self.finish(ticket),
-            None => Ok(false),
+        if let Some(ticket) = self.drafted() {
+            self.finish(ticket)?;
         }
+        Ok(())
     }
 
     // A proof reads the letter.
     fn read_back(&mut self) {
-        let Some(ticket) = self.prove(READER) else {
+        let Some(ticket) = self.open_proof(READER) else {
             return;
         };
-        self.look(&ticket, LETTER);
+        self.read_proof(&ticket, LETTER);
         let outcome = ticket.end(&mut self.store);
         self.closed("end", outcome);
     }

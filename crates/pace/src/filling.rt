@@ -1,8 +1,11 @@
-// Fills a store with versions, by its own calls. It has a seat and places for them, so none of these calls is declined; the
-// program tells how many versions came to be held.
+// Fills a store with versions, by its own calls. It has a seat and places for them, so none of these calls is declined; of the
+// largest store the program tells how many versions it came to hold.
 use cards::card::Card;
 use keepers::keeper::Keeper;
 use store::Store;
+
+// The seat whose edits fill the store.
+const FILLER: u16 = 15;
 
 pub fn letter(advance: i16) -> Card {
     Card {
@@ -11,21 +14,26 @@ pub fn letter(advance: i16) -> Card {
     }
 }
 
-// Puts one version of each entry from one on, up to sixteen, in one edit.
-fn put_some<K: Keeper>(store: &mut Store<K>, from: u16, to: u16) {
-    let _ = store.edit(15);
+// Drafts a card for each entry from `from` to below `to`.
+fn draft_some<K: Keeper>(store: &mut Store<K>, from: u16, to: u16) {
     for entry in from..to {
-        let _ = store.write(15, entry, letter(500));
+        let _ = store.write(FILLER, entry, letter(500));
     }
-    let _ = store.lock(15);
-    let _ = store.stamp(15);
-    for _ in from..to {
-        let _ = store.put(15);
-    }
-    let _ = store.settle(15);
 }
 
-// Puts one version of each entry from one on, sixteen in an edit.
+// Puts one version of each entry from `from` to below `to`, at most sixteen, in one edit.
+fn put_some<K: Keeper>(store: &mut Store<K>, from: u16, to: u16) {
+    let _ = store.edit(FILLER);
+    draft_some(store, from, to);
+    let _ = store.lock(FILLER);
+    let _ = store.stamp(FILLER);
+    for _ in from..to {
+        let _ = store.put(FILLER);
+    }
+    let _ = store.settle(FILLER);
+}
+
+// Puts one version of each entry from `first` to below `entries`, sixteen in an edit.
 fn put_each<K: Keeper>(store: &mut Store<K>, first: u16, entries: u16) {
     for group in 0..64u16 {
         let from = first.saturating_add(group * 16);

@@ -68,7 +68,7 @@ fn whole_save(rt: &HostRuntime, store: &mut Store<Linked>, pace: Pace) -> io::Re
         Call::Settle { seat },
         Call::Collect { entry },
     ];
-    repeat(rt, store, pace, "a whole edit and a collect", &whole)
+    repeat(rt, store, pace, "a whole save and a collect", &whole)
 }
 
 // The short calls on entry 0 of a store that has one version of it.
@@ -92,6 +92,13 @@ fn deep_read(rt: &HostRuntime, later: u32, pace: Pace) -> io::Result<()> {
         "a proof's read",
         &[Call::Read { seat: 0, entry: 0 }],
     )
+}
+
+fn deep_reads(rt: &HostRuntime, pace: Pace) -> io::Result<()> {
+    for later in [0, 10, 100, 1000] {
+        deep_read(rt, later, pace)?;
+    }
+    Ok(())
 }
 
 // An edit that drafts so many entries and is dropped, without its lock and with it.
@@ -127,6 +134,13 @@ fn locking(rt: &HostRuntime, drafts: u16, pace: Pace) -> io::Result<()> {
     )
 }
 
+fn lockings(rt: &HostRuntime, pace: Pace) -> io::Result<()> {
+    for drafts in [1, 4, 16] {
+        locking(rt, drafts, pace)?;
+    }
+    Ok(())
+}
+
 // An edit that reads so many entries, without its stamp and with it.
 fn stamping(rt: &HostRuntime, reads: u16, pace: Pace) -> io::Result<()> {
     let mut store = opened(rt, 1024, 16)?;
@@ -157,6 +171,13 @@ fn stamping(rt: &HostRuntime, reads: u16, pace: Pace) -> io::Result<()> {
     )
 }
 
+fn stampings(rt: &HostRuntime, pace: Pace) -> io::Result<()> {
+    for reads in [1, 8, 32] {
+        stamping(rt, reads, pace)?;
+    }
+    Ok(())
+}
+
 fn main(rt: HostRuntime) -> io::Result<()> {
     let timed = env::args(&rt)?.count() > 1;
     let pace = Pace {
@@ -177,14 +198,7 @@ fn main(rt: HostRuntime) -> io::Result<()> {
     short_calls(&rt, &mut large, pace)?;
     let held = large.into_keeper().held();
     println!(rt; "its keeper holds {held} versions")?;
-    for later in [0, 10, 100, 1000] {
-        deep_read(&rt, later, pace)?;
-    }
-    for drafts in [1, 4, 16] {
-        locking(&rt, drafts, pace)?;
-    }
-    for reads in [1, 8, 32] {
-        stamping(&rt, reads, pace)?;
-    }
-    Ok(())
+    deep_reads(&rt, pace)?;
+    lockings(&rt, pace)?;
+    stampings(&rt, pace)
 }

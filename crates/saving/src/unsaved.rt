@@ -1,5 +1,6 @@
 // What is left of an edit that could not be saved.
 ghost use Rattle.std.specs.Prelude.{◌≡◌};
+ghost use Rattle.saving.specs.Saved.{left_open, left_locked, left_stamped};
 
 use cards::refusal::Refusal;
 use tickets::declined::Declined;
@@ -7,7 +8,8 @@ use tickets::edit::EditTicket;
 use tickets::locked::LockedTicket;
 use tickets::stamped::StampedTicket;
 
-// The ticket of the stage that it came to, unless that was taken in.
+// The ticket of the stage that it came to, unless that was taken in. It cannot be let go unread, since the ticket may be a stamped
+// one: its holder puts what is left and settles, and where it is told Waiting, tries again later.
 pub enum Unsaved {
     Gone,
     Open { why: Refusal, ticket: EditTicket },
@@ -16,9 +18,7 @@ pub enum Unsaved {
 }
 
 impl From<Declined<EditTicket>> for Unsaved {
-    ghost use Rattle.saving.specs.Saved.{why_unsaved, why_declined};
-
-    ghost from_gives = { λ declined left. why_unsaved left ≡ why_declined declined };
+    ghost from_gives = { λ declined left. left ≡ left_open declined };
 
     fn from(declined: Declined<EditTicket>) -> Unsaved {
         match declined {
@@ -29,9 +29,7 @@ impl From<Declined<EditTicket>> for Unsaved {
 }
 
 impl From<Declined<LockedTicket>> for Unsaved {
-    ghost use Rattle.saving.specs.Saved.{why_unsaved, why_declined};
-
-    ghost from_gives = { λ declined left. why_unsaved left ≡ why_declined declined };
+    ghost from_gives = { λ declined left. left ≡ left_locked declined };
 
     fn from(declined: Declined<LockedTicket>) -> Unsaved {
         match declined {
@@ -42,9 +40,7 @@ impl From<Declined<LockedTicket>> for Unsaved {
 }
 
 impl From<Declined<StampedTicket>> for Unsaved {
-    ghost use Rattle.saving.specs.Saved.{why_unsaved, why_declined};
-
-    ghost from_gives = { λ declined left. why_unsaved left ≡ why_declined declined };
+    ghost from_gives = { λ declined left. left ≡ left_stamped declined };
 
     fn from(declined: Declined<StampedTicket>) -> Unsaved {
         match declined {

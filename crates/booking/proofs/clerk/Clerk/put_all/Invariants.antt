@@ -1,3 +1,4 @@
+-- The ticket goes on naming a seat of the store.
 use Rattle.booking.specs.Left.{Seated}
 use Rattle.booking.proofs.clerk.Clerk.put_all.Given as goal
 

@@ -1,10 +1,10 @@
 // An edit's way from its drafts to its cards. What is declined is handed on, with the ticket that is left.
-ghost use Rattle.std.specs.Prelude.{◌≡◌, ◌<◌, MatchResult, IfErr};
+ghost use Rattle.std.specs.Prelude.{◌<◌, MatchResult, IfErr};
 ghost use Rattle.booking.specs.Left.{Seated, SeatedBack, SeatedLeft};
 
 use crate::clerk::Clerk;
-use crate::unsaved::Unsaved;
 use keepers::keeper::Keeper;
+use saving::unsaved::Unsaved;
 use tickets::declined::Declined;
 use tickets::edit::EditTicket;
 use tickets::stamped::StampedTicket;
@@ -28,6 +28,7 @@ impl<K: Keeper> Clerk<'_, K> {
     }
 
     // Locks an edit, gives it its time, puts its drafts and settles it; answers the time.
+    #[tactic(auto, using(crate::proofs::Seats::seats))]
     pub(crate) fn save(&mut self, ticket: EditTicket) -> Result<u32, Unsaved>
         requires { ticket.seat < 16 }
         ensures { IfErr result SeatedLeft }
