@@ -1,4 +1,4 @@
-// Cards, kinds, refusals and the packed form at their edges, by the code itself. What is wanted is written out in arrays.
+// Cards, kinds, refusals and the packed form at their edges. The bytes that are wanted are written out.
 use cards::card::Card;
 use cards::kind::{Letter, Mark, Pair, fits};
 use cards::refusal::Refusal;

@@ -1,4 +1,4 @@
-// Both keepers at their edges. Each test is written once, over any keeper.
+// Both keepers at their edges. Each test is written once, over any keeper, but for making and giving back, which no trait has.
 use cards::card::Card;
 use cards::draft::Draft;
 use cards::refusal::Refusal;
@@ -29,9 +29,9 @@ pub(crate) fn roll(heap: Global, places: usize) -> Result<Roll, AllocError> {
     Ok(Roll::new(vec![in heap; version(0, 7); places]?))
 }
 
-// The time of the newest version up to a time, 0 without one: no version has that time, so an `Option` is no plainer.
-fn found<K: Keeper>(keeper: &K, entry: u16, up_to: u32) -> u32 {
-    keeper.find(entry, up_to).map_or(0, |v| v.time)
+// The time of the newest version up to a time, where there is one.
+fn found<K: Keeper>(keeper: &K, entry: u16, up_to: u32) -> Option<u32> {
+    keeper.find(entry, up_to).map(|version| version.time)
 }
 
 fn no_place<K: Keeper>(rt: &impl Abort, keeper: &mut K) {
@@ -39,7 +39,7 @@ fn no_place<K: Keeper>(rt: &impl Abort, keeper: &mut K) {
     assert_eq!(rt; keeper.spare(), 0);
     assert_eq!(rt; keeper.add(version(1024, 1)), Err(Refusal::Entry));
     assert_eq!(rt; keeper.add(version(1023, 0)), Err(Refusal::Full));
-    assert_eq!(rt; found(keeper, 0, u32::MAX), 0);
+    assert_eq!(rt; found(keeper, 0, u32::MAX), None);
     assert_eq!(rt; keeper.after(0, 0), None);
     assert!(rt; !keeper.remove(0, 7));
 }
@@ -50,8 +50,8 @@ fn one_place<K: Keeper>(rt: &impl Abort, keeper: &mut K) {
     assert_eq!(rt; keeper.add(version(1023, 0)), Err(Refusal::Order));
     assert_eq!(rt; keeper.add(version(1023, u32::MAX)), Ok(()));
     assert_eq!(rt; keeper.add(version(1023, u32::MAX)), Err(Refusal::Full));
-    assert_eq!(rt; found(keeper, 1023, u32::MAX), u32::MAX);
-    assert_eq!(rt; found(keeper, 1023, u32::MAX - 1), 0);
+    assert_eq!(rt; found(keeper, 1023, u32::MAX), Some(u32::MAX));
+    assert_eq!(rt; found(keeper, 1023, u32::MAX - 1), None);
     assert_eq!(rt; keeper.after(1023, 0), Some(u32::MAX));
     assert_eq!(rt; keeper.after(1023, u32::MAX), None);
     assert_eq!(rt; keeper.after(1024, 0), None);
@@ -70,7 +70,7 @@ fn middle<K: Keeper>(rt: &impl Abort, keeper: &mut K) {
     assert_eq!(rt; keeper.add(version(7, 6)), Err(Refusal::Full));
     assert!(rt; keeper.remove(7, 3));
     assert!(rt; !keeper.remove(7, 3));
-    assert_eq!(rt; found(keeper, 7, 3), 2);
+    assert_eq!(rt; found(keeper, 7, 3), Some(2));
     assert_eq!(rt; keeper.after(7, 2), Some(4));
     assert_eq!(rt; keeper.add(version(7, 5)), Err(Refusal::Order));
     assert_eq!(rt; keeper.add(version(8, 1)), Ok(()));
@@ -82,12 +82,12 @@ fn middle<K: Keeper>(rt: &impl Abort, keeper: &mut K) {
 fn ends<K: Keeper>(rt: &impl Abort, keeper: &mut K) {
     assert!(rt; keeper.remove(7, 5));
     assert!(rt; keeper.remove(7, 1));
-    assert_eq!(rt; found(keeper, 7, u32::MAX), 4);
+    assert_eq!(rt; found(keeper, 7, u32::MAX), Some(4));
     assert_eq!(rt; keeper.after(7, 0), Some(2));
     assert_eq!(rt; keeper.add(version(7, 5)), Ok(()));
     assert_eq!(rt; keeper.add(version(1023, 1)), Ok(()));
     assert_eq!(rt; keeper.add(version(9, 1)), Err(Refusal::Full));
-    assert_eq!(rt; found(keeper, 8, 1), 1);
+    assert_eq!(rt; found(keeper, 8, 1), Some(1));
     assert_eq!(rt; keeper.spare(), 0);
 }
 

@@ -43,7 +43,7 @@ fn calls_of_one_number(rt: HostRuntime) {
 }
 
 #[test]
-fn calls_of_more(rt: HostRuntime) {
+fn calls_without_a_field(rt: HostRuntime) {
     reads(
         &rt,
         b"r 15 900",
@@ -62,6 +62,10 @@ fn calls_of_more(rt: HostRuntime) {
             card,
         },
     );
+}
+
+#[test]
+fn calls_with_fields(rt: HostRuntime) {
     let card = Card {
         advance: Some(620),
         left_bearing: Some(-1),

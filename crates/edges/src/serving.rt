@@ -121,8 +121,7 @@ fn a_store_over_a_roll_keeper(rt: HostRuntime) -> Result<(), Fail> {
 }
 
 // A store over a keeper that holds a version has no entries.
-#[test]
-fn over_a_keeper_that_holds(rt: HostRuntime) -> Result<(), Fail> {
+fn over_held<K: Keeper + Drop>(rt: &impl Abort, keeper: K) {
     let calls = [
         Call::Edit { seat: 0 },
         Call::Write {
@@ -135,10 +134,16 @@ fn over_a_keeper_that_holds(rt: HostRuntime) -> Result<(), Fail> {
         Call::Put { seat: 0 },
     ];
     let mut answers = [Ok(Answer::Done); 5];
-    let (store, _) = run(linked(rt.alloc(), 2)?, letters(1), &calls, &mut answers);
+    let (store, _) = run(keeper, letters(1), &calls, &mut answers);
     let mut again = Store::new(store.into_keeper(), letters(1));
     assert_eq!(rt; again.edit(0), Ok(0));
     assert_eq!(rt; again.write(0, 0, wide(1)), Err(Refusal::Entry));
+}
+
+#[test]
+fn over_a_keeper_that_holds(rt: HostRuntime) -> Result<(), Fail> {
+    over_held(&rt, linked(rt.alloc(), 2)?);
+    over_held(&rt, roll(rt.alloc(), 2)?);
     Ok(())
 }
 

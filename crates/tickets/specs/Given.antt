@@ -1,4 +1,4 @@
--- What a call through a ticket gives, by the answer of the numbered call on its seat.
+-- What a call through a ticket gives, by the answer of the call by its number on the ticket's seat.
 use Rattle.std.specs.Prelude.{ℕ, Bool, true, false, cond, not, ◌&&◌, Some, Ok, Err, Result, ◌==◌}
 use Rattle.std.specs.Option.{unwrap_or}
 use Rattle.cards.specs.Refusals.{number_of}

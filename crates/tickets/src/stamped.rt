@@ -12,7 +12,7 @@ use keepers::keeper::Keeper;
 use rules::stage::Stage;
 use store::Store;
 
-// Its seat is there until it is spent.
+// Its seat is there until it is spent, which settling does, or a call that takes it in.
 pub struct StampedTicket {
     pub(crate) seat: Option<u16>,
 }
@@ -48,7 +48,7 @@ impl StampedTicket {
         self.seat = None;
     }
 
-    // What becomes of it where its call is declined: it is taken in, or given back.
+    // `Declined::by` for a ticket that may not be let go unspent: it is spent and taken in, or given back.
     fn declined(self, gone: bool, why: Refusal) -> Declined<StampedTicket>
         ensures { result ≡ declined gone self why }
     {
