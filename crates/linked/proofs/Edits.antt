@@ -1,7 +1,7 @@
 -- Reading and writing memory of which only the first places are used, and what is left as it was.
 use Rattle.std.proofs.Common.{◌≡◌, ℕ, ◌<◌, ◌≢◌, List, length, get_or, set, Some, None, Option, sym, refl, ap, ◌∙◌, subst, inl, inr, arith}
 use Rattle.std.proofs.Math.Seq.{take-set-lt}
-use Rattle.std.proofs.lemmas.List.{get_or-set_other, get_or-take, get_or_default, length-set, length-take}
+use Rattle.std.proofs.lemmas.List.{get_or-set_other, get_or-take, length-set, length-take}
 use Rattle.std.proofs.lemmas.Bool.{cases_eq}
 use Rattle.keepers.specs.Look.{holds}
 use Rattle.keepers.specs.Memory.{most_places}
@@ -19,10 +19,6 @@ module _ (s : Linked) (p : ℕ) (l : p < length (linked_used s)) where
   -- a used place is in the memory, and its number has 16 bits
   pub used_in : (p < length s.places.items) × (p < most_places)
   used_in = let k = length-take most_places s.places.items in (omega arith, omega arith)
-
-  -- a used place, as it is read: xs is the memory as a slice, and d what a reading past it would give
-  pub used_read : {xs : List Place} {i : ℕ} (d : Place) → xs ≡ s.places.items → i ≡ p → get_or xs i d ≡ get_or (linked_used s) p empty_place
-  used_read d xs-is i-is = rw (xs-is, i-is) (get_or_default s.places.items p d empty_place used_in.0 ∙ sym (get_or-take most_places s.places.items p empty_place used_in.1))
 
 -- a used place, as it is led on
 pub used_led : (xs : List Place) (b n : Option ℕ) → ((q : ℕ) → b ≡ Some q → q < most_places) → used_places (led_places xs b n) ≡ led_places (used_places xs) b n

@@ -5,6 +5,7 @@ ghost use Rattle.linked.specs.View.{linked_used};
 
 use crate::keeper::{Heads, Linked};
 use crate::place::{Content, Place};
+use crate::reading::link_in;
 use keepers::entry::EntryNumber;
 
 // Where a walk has come to: the last place that it has left, and the place that it stands at.
@@ -31,13 +32,14 @@ impl Linked {
         ensures after { After (linked_used self.now) self.now.heads entry.number time result.before result.at }
         ensures until { (p : ℕ) → result.at ≡ Some p → time_at (linked_used self.now) p ≤ time }
     {
+        let places = self.used();
         let mut reached = Reached {
             before: None,
             at: self.heads[usize::from(entry)],
         };
         // No index: each step goes where the place before leads.
         while let Some(p) = reached.at {
-            let link = self.link_at(p);
+            let link = link_in(places, p);
             if link.version.time <= time {
                 return reached;
             }

@@ -4,11 +4,11 @@ use Rattle.linked.specs.Laws.{chain_of}
 use Rattle.linked.proofs.Chains.{at_version, step, falls}
 use Rattle.linked.proofs.keeper.Linked.walk.Goals as goal
 
-pub link_at-link-requires : goal.link_at-link-requires
-link_at-link-requires c = at_version c.args.self.now _ c.loop-reached.invariant c.in-Some.is
+pub link_in-link-requires : goal.link_in-link-requires
+link_in-link-requires c = rw c.used-places.ensures (at_version c.args.self.now _ c.loop-reached.invariant c.in-Some.is)
 
 pub loop-reached-smaller : goal.loop-reached-smaller
-loop-reached-smaller c = falls (chain_of c.args.self.now) _ _ c.loop-reached.invariant c.in-Some.is c.link_at-link.ensures
+loop-reached-smaller c = falls (chain_of c.args.self.now) _ _ c.loop-reached.invariant c.in-Some.is (rw c.used-places.ensures at c.link_in-link.ensures)
 
 pub loop-reached-preserved : goal.loop-reached-preserved
-loop-reached-preserved c = step (chain_of c.args.self.now) _ _ c.loop-reached.invariant c.in-Some.is c.link_at-link.ensures (omega arith)
+loop-reached-preserved c = step (chain_of c.args.self.now) _ _ c.loop-reached.invariant c.in-Some.is (rw c.used-places.ensures at c.link_in-link.ensures) (omega arith)
