@@ -85,16 +85,14 @@ impl<K: Keeper> Store<K> {
         ensures same { is_ok result ≡ false → self.new ≡ self.old }
     {
         let stage = self.table.stage(seat)?;
-        // A proof is looked for first, with no match over all stages: its reads are the many, and cost less so.
-        if let Stage::Proof { start } = stage {
-            self.table.check_entry(entry)?;
-            return Ok(self.card_at(entry, start));
-        }
-        let Stage::Edit { start } = stage else {
+        let (Stage::Proof { start } | Stage::Edit { start }) = stage else {
             return Err(Refusal::Stage);
         };
         self.table.check_entry(entry)?;
-        self.read_edit(seat, entry, start)
+        if let Stage::Edit { .. } = stage {
+            return self.read_edit(seat, entry, start);
+        }
+        Ok(self.card_at(entry, start))
     }
 
     // Drafts a card for an entry.
