@@ -1,22 +1,23 @@
-// An entry's number, as a keeper takes it.
+//! The number of an entry: a letter, a mark or a pair.
 ghost use Rattle.std.specs.Prelude.{◌<◌};
+ghost use Rattle.cards.specs.declared.entry.TheConstants.{ENTRIES};
 
-use cards::refusal::Refusal;
+use crate::refusal::Refusal;
 
-// How many entries there are at most.
+/// The most entries that a store may have.
 pub const ENTRIES: usize = 1024;
 
-// A number below 1,024. It is tested where it is made, and nowhere again.
+/// A number below 1,024. It is tested where it is made, and nowhere again: a number of 1,024 or more is declined by `Entry`.
 #[derive(Clone, Copy, PartialEq, Eq, Debug)]
 pub struct EntryNumber {
     pub number: u16,
-    pub ghost below: { number < 1024 },
+    pub ghost below: { number < ENTRIES },
 }
 
 impl TryFrom<u16> for EntryNumber {
     type Error = Refusal;
 
-    ghost use Rattle.keepers.specs.Entries.{EntryGiven};
+    ghost use Rattle.cards.specs.Entries.{EntryGiven};
 
     ghost try_from_gives = { EntryGiven };
 
