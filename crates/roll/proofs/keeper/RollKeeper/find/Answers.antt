@@ -1,10 +1,10 @@
 use Rattle.std.specs.Prelude.{◌≡◌, slice_index_or}
 use Rattle.std.specs.Option.{option_map}
 use Rattle.std.proofs.Common.{rules}
-use Rattle.keepers.specs.Look.{no_version}
+use Rattle.keepers.specs.SetOf.{no_version}
 use Rattle.roll.specs.View.{roll_front}
 use Rattle.roll.proofs.Meanings.{newest_last}
-use Rattle.roll.proofs.calls.RollKeeper.find.Goals as goal
+use Rattle.roll.proofs.keeper.RollKeeper.find.Goals as goal
 
 pub returns : goal.returns
 returns c =
