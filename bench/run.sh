@@ -37,7 +37,7 @@ once() {
 turn=1
 while [ "$turn" -le "$turns" ]; do
     echo "bench: turn $turn of $turns, load $(cut -d' ' -f1-3 /proc/loadavg 2>/dev/null)"
-    once store time
+    once store workloads
     once plain
     once leveldb "$folder/leveldb"
     once lmdb "$folder/lmdb"

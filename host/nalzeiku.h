@@ -17,8 +17,8 @@ enum {
 /*
  * Runs a script on a new store of two letters (entries 0 and 1), a mark (2) and a pair (3), over a keeper with places
  * for eight versions, and writes the answers to its lines to the front of `answers`. Gives their length, or one of the
- * numbers above. The bytes behind the answers stay as they are; where a number above is given, all of them do. Nothing
- * is kept from one call to the next.
+ * numbers above. The bytes behind the answers stay as they are; where a number above is given, all of them do. No memory
+ * is asked for, and nothing is kept from one call to the next.
  *
  * Neither pointer is null, even where its length is 0; the two stretches of memory do not overlap, and each length is
  * that of its stretch, below 2^63. Nothing checks this.

@@ -1,7 +1,6 @@
 #!/bin/sh
-# Tries the misuses of each crate that has some (crates/NAME/misuses) on a copy of what is committed: the compiler has to refuse each,
-# and the first thing that it says must be the line `says:` of the misuse. They are no edits for must-fail/, since those have to reach
-# the prover: here there is no such call, or the ticket is gone.
+# Tries the misuses, crates/NAME/misuses/*.edit, on a copy of what is committed: the compiler has to refuse each, and the first thing that
+# it says must be the line `says:` of the misuse. There they stand in the place of the must-fail edits, and `rt must-fail` calls each a BAD EDIT.
 set -eu
 cd "$(dirname "$0")/.."
 copy=$(mktemp -d)
@@ -10,7 +9,8 @@ git clone -q . "$copy/repo"
 cd "$copy/repo"
 for folder in crates/*/misuses; do
     crate=$(basename "$(dirname "$folder")")
-    rm "crates/$crate/must-fail/"*.edit
+    rm -rf "crates/$crate/must-fail"
+    mkdir "crates/$crate/must-fail"
     for misuse in "$folder"/*.edit; do
         grep -v '^says: ' "$misuse" > "crates/$crate/must-fail/$(basename "$misuse")"
     done

@@ -1,18 +1,9 @@
-// Saving, by the calls that it takes.
-use crate::made::{Made, opened};
+// Saves, by the calls that they take, and stores that are filled by them.
 use cards::card::Card;
 use cards::refusal::Refusal;
+use fixtures::{letters, wide};
 use keepers::keeper::Keeper;
-use std::alloc::{AllocError, Global};
 use store::Store;
-
-// A letter's card. The advance says which it is.
-pub fn letter(advance: i16) -> Card {
-    Card {
-        advance: Some(advance),
-        ..Card::blank()
-    }
-}
 
 // What one save is asked: by which seat, of which entry, and its next card.
 #[derive(Clone, Copy)]
@@ -40,17 +31,29 @@ pub fn save_some<K: Keeper>(store: &mut Store<K>, entry: u16, first: u32, versio
         let wish = Wish {
             seat: 15,
             entry,
-            card: letter((number % 1001) as i16),
+            card: wide((number % 1001) as i16),
         };
         let _ = save(store, wish);
     }
 }
 
-// A store of so many letters, with a version of each.
-pub fn filled<K: Made>(alloc: Global, letters: u16) -> Result<Store<K>, AllocError> {
-    let mut store = opened::<K>(alloc, usize::from(letters))?;
-    for entry in 0..letters {
-        save_some(&mut store, entry, 1, 1);
+// Saves a version of each entry from `from` to below `to`.
+fn save_each<K: Keeper>(store: &mut Store<K>, from: u16, to: u16, number: u32) {
+    for entry in from..to {
+        save_some(store, entry, number, 1);
     }
-    Ok(store)
+}
+
+// Saves so many versions of each of these entries, which take turns.
+pub fn fill<K: Keeper>(store: &mut Store<K>, from: u16, to: u16, versions: u32) {
+    for number in 0..versions {
+        save_each(store, from, to, number);
+    }
+}
+
+// A store of so many letters over an empty keeper, with a version of each.
+pub fn filled<K: Keeper>(keeper: K, entries: u16) -> Store<K> {
+    let mut store = Store::new(keeper, letters(usize::from(entries)));
+    save_each(&mut store, 0, entries, 1);
+    store
 }

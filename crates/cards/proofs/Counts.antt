@@ -4,6 +4,7 @@ use mathlib.Core.Path.{fun_ext}
 use Rattle.std.proofs.lemmas.Bool.{eq-eqb, ne_eqb, cases_eq}
 use Rattle.cards.specs.Versions.{Kept, Empty, with_card, without, sum_below, held_in}
 use Rattle.cards.specs.declared.card.Card.{Card}
+use Rattle.cards.specs.declared.entry.TheConstants.{ENTRIES}
 
 sum_same : (f g : ℕ → ℕ) (n : ℕ) → ((j : ℕ) → j < n → f j ≡ g j) → sum_below f n ≡ sum_below g n
 unfolding sum_below
@@ -40,10 +41,10 @@ abbrev one_if : Option Card → ℕ
 one_if o = cond (is_some o) 1 0
 
 -- two sets that differ at one entry and time
-held_at : (m m' : Kept) (e t d : ℕ) → e < 1024 → t < 2 ^ 32 → ((f u : ℕ) → (f ≡ e → u ≡ t → ⊥) → m f u ≡ m' f u) → one_if (m e t) ≡ one_if (m' e t) + d → held_in m ≡ held_in m' + d
+held_at : (m m' : Kept) (e t d : ℕ) → e < ENTRIES → t < 2 ^ 32 → ((f u : ℕ) → (f ≡ e → u ≡ t → ⊥) → m f u ≡ m' f u) → one_if (m e t) ≡ one_if (m' e t) + d → held_in m ≡ held_in m' + d
 unfolding held_in
 held_at m m' e t d le lt same here =
-    sum_at _ _ 1024 e d le
+    sum_at _ _ ENTRIES e d le
     (λ f ne. sum_same _ _ (2 ^ 32) (λ u l. ap one_if (same f u (λ p q. ne p))))
     (sum_at _ _ (2 ^ 32) t d lt (λ u ne. ap one_if (same e u (λ p q. ne q))) here)
 
@@ -51,7 +52,7 @@ held_at m m' e t d le lt same here =
 held_within : (m m' : Kept) (e t d : ℕ) → ((f u : ℕ) → (f ≡ e → u ≡ t → ⊥) → m f u ≡ m' f u) → one_if (m e t) ≤ one_if (m' e t) + d → held_in m ≤ held_in m' + d
 unfolding held_in
 held_within m m' e t d same here =
-    sum_most _ _ 1024 e d
+    sum_most _ _ ENTRIES e d
     (λ f ne. sum_same _ _ (2 ^ 32) (λ u l. ap one_if (same f u (λ p q. ne p))))
     (sum_most _ _ (2 ^ 32) t d (λ u ne. ap one_if (same e u (λ p q. ne q))) here)
 
@@ -93,10 +94,10 @@ module _ (m : Kept) (e t : ℕ) where
   pub without_none : m e t ≡ None → m ≡ without m e t
   without_none free = same_set m (without m e t) e t (free ∙ sym without_here) (λ f u ne. sym (without_other f u ne))
 
-  pub held_more : (c : Card) → e < 1024 → t < 2 ^ 32 → m e t ≡ None → held_in (with_card m e t c) ≡ held_in m + 1
+  pub held_more : (c : Card) → e < ENTRIES → t < 2 ^ 32 → m e t ≡ None → held_in (with_card m e t c) ≡ held_in m + 1
   held_more c le lt free = held_at (with_card m e t c) m e t 1 le lt (with_other c) (let a = with_here c in rw (a, free))
 
-  pub held_less : (c : Card) → e < 1024 → t < 2 ^ 32 → m e t ≡ Some c → held_in m ≡ held_in (without m e t) + 1
+  pub held_less : (c : Card) → e < ENTRIES → t < 2 ^ 32 → m e t ≡ Some c → held_in m ≡ held_in (without m e t) + 1
   held_less c le lt full = held_at m (without m e t) e t 1 le lt (λ f u ne. sym (without_other f u ne)) (let a = without_here in rw (a, full))
 
   pub held_most : (c : Card) → held_in (with_card m e t c) ≤ held_in m + 1
@@ -107,4 +108,4 @@ module _ (m : Kept) (e t : ℕ) where
 
 pub held_none : (m : Kept) → Empty m → held_in m ≡ 0
 unfolding held_in
-held_none m h = sum_zero _ 1024 (λ e. sum_zero _ (2 ^ 32) (λ t. ap one_if (h e t)))
+held_none m h = sum_zero _ ENTRIES (λ e. sum_zero _ (2 ^ 32) (λ t. ap one_if (h e t)))

@@ -1,4 +1,5 @@
 pub mod Counts
+pub mod Holdings
 pub mod Joined
 pub mod Newest
 pub mod Somes

@@ -1,7 +1,7 @@
--- The newest time of an entry: what it is, how it bounds what is held, and what is taken after it.
+-- The newest time of an entry: what it is, and how it bounds what is held.
 use Rattle.std.proofs.Common.{◌≡◌, ℕ, zero, suc, ◌^◌, ◌<◌, ◌≤◌, Bool, true, false, cond, ◌⊎◌, is_some, None, Option, sym, refl, inl, inr, not-suc-le-zero, arith}
-use Rattle.std.proofs.lemmas.Bool.{cases_eq, ne_eqb, lt-leb}
-use Rattle.cards.specs.Versions.{Kept, room, last_below, newest_time, verdict}
+use Rattle.std.proofs.lemmas.Bool.{cases_eq}
+use Rattle.cards.specs.Versions.{Kept, last_below, newest_time}
 use Rattle.cards.specs.declared.card.Card.{Card}
 
 below_none : (f : ℕ → Option Card) (n : ℕ) → ((u : ℕ) → f u ≡ None) → last_below f n ≡ 0
@@ -52,11 +52,3 @@ newest_is m e t l some top = below_is (m e) (2 ^ 32) t l some top
 -- it is below a time that is not 0 and above every time held
 pub newest_below : (m : Kept) (e t : ℕ) → 0 < t → ((u : ℕ) → is_some (m e u) ≡ true → u < t) → newest_time m e < t
 newest_below m e t l above = elim (below_held (m e) (2 ^ 32)) [ inl z ↦ omega arith | inr h ↦ above (newest_time m e) h ]
-
--- a version after it is taken where there is room
-pub taken : (places : ℕ) (m : Kept) (e t : ℕ) → e < 1024 → 0 < room places m → newest_time m e < t → verdict places m e t ≡ None
-taken places m e t h r l =
-    let a = lt-leb 1024 e h in
-    let b = ne_eqb (room places m) 0 (λ z. omega arith) in
-    let c = lt-leb t (newest_time m e) l in
-    rw (a, b, c)

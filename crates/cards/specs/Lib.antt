@@ -1,4 +1,6 @@
 pub mod Cards
+pub mod Entries
+pub mod Holding
 pub mod Kinds
 pub mod Refusals
 pub mod Shown

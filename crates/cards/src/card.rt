@@ -1,9 +1,8 @@
-// A card: the numbers of one entry at one moment, in font units.
+//! A card: what one entry looks like at one moment.
 ghost use Rattle.std.specs.Prelude.{◌≡◌, ◌<◌};
 ghost use Rattle.cards.specs.Cards.{blank_card, bit, map_of};
 
-// Six fields, each a number or absent. An absent field has no number that could disagree with the bit map. They have names, where an array
-// would have positions; so what goes over all six is written out.
+/// What one entry looks like at one moment: six fields, each a number in font units or absent.
 #[derive(Clone, Copy, Default, PartialEq, Eq, Debug)]
 pub struct Card {
     pub advance: Option<i16>,
@@ -22,14 +21,14 @@ fn bit_of(field: Option<i16>, value: u8) -> u8
 }
 
 impl Card {
-    // The card without a field.
+    /// The card without a field.
     pub fn blank() -> Card
         ensures { result ≡ blank_card }
     {
         Card::default()
     }
 
-    // The bit map: which fields are there, the advance lowest.
+    /// The bit map, below 64: which fields are there. Bit 0 is the advance, and bits 1 to 5 the others in their order.
     pub fn map(self) -> u8
         ensures value { result ≡ map_of self }
         ensures below { result < 64 }

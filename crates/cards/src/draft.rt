@@ -1,6 +1,7 @@
-// A draft: a card for an entry that has no time yet.
+//! A draft.
 use crate::card::Card;
 
+/// A card for an entry that has no time yet.
 #[derive(Clone, Copy, PartialEq, Eq, Debug)]
 pub struct Draft {
     pub entry: u16,

@@ -1,24 +1,26 @@
-// The kinds of entry, and which fields each may bear.
+//! The kinds of entry, and which fields each may bear.
 ghost use Rattle.std.specs.Prelude.{◌≡◌, ℕ};
 ghost use Rattle.cards.specs.Cards.{map_of};
 ghost use Rattle.cards.specs.Kinds.{letter_map, mark_map, pair_map, fits_in};
 
 use crate::card::Card;
 
-// A kind of entry, by its constant map of the fields that it may bear. Clauses name the same constant.
+/// A kind of entry.
 pub trait Kind {
+    // The constant as clauses name it.
     ghost MAP: { ℕ };
 
+    /// The bit map of the fields that it may bear.
     const MAP: u8;
 }
 
-// A letter bears an advance, a left bearing and an anchor.
+/// A letter bears an advance, a left bearing and an anchor.
 pub struct Letter;
 
-// A mark bears an anchor and a mark class.
+/// A mark bears an anchor and a mark class.
 pub struct Mark;
 
-// A pair bears a kern.
+/// A pair bears a kern.
 pub struct Pair;
 
 impl Kind for Letter {
@@ -39,7 +41,7 @@ impl Kind for Pair {
     const MAP: u8 = 32;
 }
 
-// Whether a card has no bit that its kind may not bear.
+/// Whether a card has only fields that entries of this kind may bear.
 pub fn fits<K: Kind>(card: Card) -> bool
     ensures { result ≡ fits_in K.MAP (map_of card) }
 {

@@ -1,42 +1,60 @@
-// Why a call is declined.
+//! Why a call is declined.
 ghost use Rattle.std.specs.Prelude.{◌≡◌, Some};
 ghost use Rattle.cards.specs.Refusals.{number_of, word_of};
 
 use std::error::Error;
 use std::fmt;
 
-// One case for each word of the table, with its number, in the table's order. Where several apply, the first is given.
+/// Why a call is declined: one case for each word, with its number. Where several apply, the one that stands first here is given.
 #[derive(Clone, Copy, PartialEq, Eq, Debug)]
 pub enum Refusal {
+    /// The seat number is above 15.
     Seat = 1,
+    /// The seat is not in a stage that the call serves, or put finds no draft left.
     Stage = 2,
+    /// There is no such entry.
     Entry = 3,
+    /// The card has a field that the entry's kind may not bear.
     Misfit = 4,
+    /// Another seat has locked an entry that the call asks for.
     Held = 5,
+    /// An entry that was read has a version later than the edit's start.
     Stale = 6,
+    /// The list has no room for one more entry.
     List = 7,
+    /// The keeper has too few places for the drafts that are not put and this edit's.
     Places = 8,
+    /// The clock is at its end.
     Clock = 9,
+    /// A draft of the edit is not put yet.
     Unput = 10,
+    /// An edit with a lesser time still has drafts to put.
     Waiting = 11,
+    /// The entry has no version that may be collected.
     Needed = 12,
+    /// A size is outside its limits.
     Sizes = 13,
+    /// A line of a script cannot be read.
     Line = 14,
+    /// A packed card begins with no bit map.
     Map = 15,
+    /// Bytes or a buffer end too early.
     Short = 16,
+    /// The keeper has no place to spare.
     Full = 17,
+    /// The time is not later than each that the entry has, or it is 0.
     Order = 18,
 }
 
 impl Refusal {
-    // The number by which hosts and scripts are told; 0 is kept for a granted call.
+    /// The number that a host or a script is told: 1 to 18. A granted call is told as 0.
     pub fn number(self) -> u8
         ensures { result ≡ number_of self }
     {
         self as u8
     }
 
-    // Its word, for people. `Display` writes it; a host may want it as a value.
+    /// Its word, for people: what `Display` writes.
     pub fn word(self) -> &'static str
         ensures { result.now ≡ word_of self }
     {

@@ -1,4 +1,4 @@
-// The text of a card, for people.
+//! The text of a card, for people.
 ghost use Rattle.std.specs.Prelude.{◌≡◌, Some, map};
 ghost use Rattle.cards.specs.Shown.{fields_of, shown};
 
@@ -19,6 +19,7 @@ fn fields(card: Card) -> [(&'static str, Option<i16>); 6]
     ]
 }
 
+// Each field that is there, by its name and number, with a comma between two; `blank` where there is none.
 impl fmt::Display for Card {
     ghost output = { λ card. Some (shown card) };
 

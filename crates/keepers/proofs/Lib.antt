@@ -1,3 +1,3 @@
 pub mod Fixes
-pub mod Looks
+pub mod SetsOf
 pub mod Verdicts

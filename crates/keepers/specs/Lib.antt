@@ -1,6 +1,5 @@
-pub mod Entries
 pub mod Fixed
 pub mod Kept
 pub mod Lists
-pub mod Look
+pub mod SetOf
 pub mod Memory

@@ -1,4 +1,4 @@
-// Drafts as the search sees them.
+//! Drafts as the search sees them.
 use crate::search::BearsEntry;
 use cards::draft::Draft;
 
@@ -11,7 +11,6 @@ impl BearsEntry for Draft {
         self.entry
     }
 
-    // No time counts as time 0, which no version has; an `Option` would make one comparison two.
     fn time(&self) -> u32 {
         0
     }

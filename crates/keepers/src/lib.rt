@@ -1,8 +1,7 @@
-// What a keeper of versions promises, and the one search.
+//! What a keeper of versions promises, and the one search.
 #![tactic(auto)]
 
 pub mod draft;
-pub mod entry;
 pub mod keeper;
 pub mod memory;
 pub mod search;

@@ -1,7 +1,8 @@
-// A version: the card that an entry has from a time on.
+//! Versions.
 use crate::search::BearsEntry;
 use cards::card::Card;
 
+/// A version: the card that an entry has from a time on, until its next version's time.
 #[derive(Clone, Copy, Default, PartialEq, Eq, Debug)]
 pub struct Version {
     pub entry: u16,

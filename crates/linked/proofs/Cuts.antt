@@ -1,303 +1,235 @@
 -- A version taken out of its chain, and its place put before the free ones.
-use Rattle.std.proofs.Common.{◌≡◌, ℕ, ◌+◌, ◌-◌, ◌<◌, ◌≤◌, true, ◌≢◌, ◌⊎◌, List, length, get_or, set, is_some, Some, None, Option, sym, refl, ap, ◌∙◌, subst, ap₂, inl, inr, arith}
-use Rattle.std.proofs.lemmas.List.{get_or-set_same, get_or-set_other, get_or-take, length-set}
-use Rattle.std.proofs.Math.Seq.{take-set-lt}
+use Rattle.std.proofs.Common.{◌≡◌, ℕ, ◌+◌, ◌-◌, ◌<◌, true, ◌≢◌, ◌⊎◌, List, length, get_or, set, is_some, Some, None, Option, sym, refl, ap, ap₂, ◌∙◌, subst, inl, inr, arith}
+use Rattle.std.proofs.lemmas.List.{get_or-set_same, get_or-set_other, length-set}
 use Rattle.std.proofs.lemmas.Bool.{cases_eq}
-use Rattle.smallvec.specs.SmallVec.{with_items, small_vec_len}
-use Rattle.smallvec.proofs.SmallVecLemmas.{items-with_items}
+use Rattle.cards.specs.Holding.{holding}
+use Rattle.keepers.specs.Kept.{removed}
 use Rattle.cards.specs.Versions.{without, held_in}
-use Rattle.linked.specs.Chain.{empty_place, free_place, version_of, next_of, below_of, led_place, used_places, kept_in, time_at, entry_at, next_at, below_at, OfEntry, Chained, Freed, Sound, After, led_places, led_heads}
-use Rattle.keepers.specs.Memory.{most_places}
-use Rattle.linked.specs.View.{linked_used, linked_kept}
+use Rattle.cards.specs.declared.entry.TheConstants.{ENTRIES}
+use Rattle.cards.proofs.Counts.{held_less, without_here, without_other, same_set}
+use Rattle.keepers.specs.SetOf.{holds}
+use Rattle.keepers.specs.declared.version.Version.{Version}
+use Rattle.keepers.proofs.SetsOf.{set_of-alike, holds_not}
+use Rattle.linked.specs.Chain.{empty_place, free_place, version_of, next_of, below_of, led_place, kept_in, time_at, entry_at, next_at, below_at, time_or_zero, Free, LeadsTo, LeadsFree, Walked, Chained, Freed, Sound, led_places, led_heads}
+use Rattle.linked.proofs.Held.{none_kept}
+use Rattle.linked.specs.View.{linked_kept, linked_means}
 use Rattle.linked.specs.declared.keeper.Linked.{Linked}
 use Rattle.linked.specs.declared.place.Place.{Place}
-use Rattle.cards.proofs.Counts.{held_less, without_here, without_other, same_set}
-use Rattle.keepers.proofs.Looks.{holds_not}
-use Rattle.linked.proofs.Chains.{in_places, kept_at, at_place}
-use Rattle.linked.specs.Laws.{none_kept, sound_of, chain_of}
-use Rattle.linked.proofs.Edits.{Like, alike, like_kept, like_set, used_in, used_led, Timed, free_timed, led_version, led_below, led_timed, led_next}
+use Rattle.linked.proofs.Chains.{in_places, kept_at}
+use Rattle.linked.proofs.Edits.{written, free_time, carried}
 
--- with a version less, one less is held
-less_by : {ps : List Place} {hs : List (Option ℕ)} {f : Option ℕ} {n h : ℕ} → Sound ps hs f n h → (p : ℕ) → 0 < time_at ps p → h ≡ held_in (without (kept_in ps) (entry_at ps p) (time_at ps p)) + 1
-less_by {ps} s p was = s.counted ∙ held_less (kept_in ps) (entry_at ps p) (time_at ps p) _ (s.chained.entries p was) (s.times p) (kept_at s.chained (entry_at ps p) p (was, refl))
+-- with the version in p less, one less is held
+pub less_by : {ps : List Place} {hs : List (Option ℕ)} {f : Option ℕ} {n h : ℕ} → Sound ps hs f n h → (p : ℕ) → 0 < time_at ps p → h ≡ held_in (without (kept_in ps) (entry_at ps p) (time_at ps p)) + 1
+less_by {ps} s p was = s.counted ∙ held_less (kept_in ps) (entry_at ps p) (time_at ps p) _ (s.chained.entries p was) (s.chained.times p) (kept_at s.chained (entry_at ps p) p (was, refl))
 
--- what led to o leads to o': to the same, unless o was the place p, and then to p's next
+-- what led to the place p leads to its next, and all else to where it led
 abbrev pub Passed : List Place → ℕ → Option ℕ → Option ℕ → Type 0
-Passed ps p o o' = ((o ≡ Some p → ⊥) × (o' ≡ o)) ⊎ ((o ≡ Some p) × (o' ≡ next_at ps p))
+Passed ps p o o' = ((o ≢ Some p) × (o' ≡ o)) ⊎ ((o ≡ Some p) × (o' ≡ next_at ps p))
 
--- what is to be shown of the places and the heads after: p is free, and passed over by what led to it
-pub record Cut (ps ps' : List Place) (hs hs' : List (Option ℕ)) (p : ℕ) (f : Option ℕ) (n : ℕ) : Type 0 where
-  pub like : Like ps ps' p
-  pub here : get_or ps' p empty_place ≡ free_place f n
-  pub f_same : (r : ℕ) → r ≢ p → time_at ps r ≡ 0 → next_at ps' r ≡ next_at ps r
-  pub n_cut : (r : ℕ) → r ≢ p → 0 < time_at ps r → Passed ps p (next_at ps r) (next_at ps' r)
-  pub h_cut : (d : ℕ) → Passed ps p (get_or hs d None) (get_or hs' d None)
-  pub h_len : length hs' ≡ length hs
+-- the places qs and the heads hs' lead past the place p
+pub record LedPast (ps qs : List Place) (hs hs' : List (Option ℕ)) (p : ℕ) : Type 0 where
+  pub version : (r : ℕ) → version_of (get_or qs r empty_place) ≡ version_of (get_or ps r empty_place)
+  pub below : (r : ℕ) → below_at qs r ≡ below_at ps r
+  pub held : (r : ℕ) → 0 < time_at ps r → Passed ps p (next_at ps r) (next_at qs r)
+  pub free : (r : ℕ) → time_at ps r ≡ 0 → next_at qs r ≡ next_at ps r
+  pub heads : (d : ℕ) → d < ENTRIES → Passed ps p (get_or hs d None) (get_or hs' d None)
+  pub len : length qs ≡ length ps
+  pub heads_len : length hs' ≡ length hs
 
-module _ {ps ps' : List Place} {hs hs' : List (Option ℕ)} {f : Option ℕ} {n h p : ℕ} (s : Sound ps hs f n h) (was : 0 < time_at ps p) (cut : Cut ps ps' hs hs' p f n) where
-  ch : Chained ps hs
-  ch = s.chained
+-- ---- the two ways to lead past: p is its entry's newest, or the place b leads to it
 
-  at_p : (r : ℕ) → r ≡ p → get_or ps' r empty_place ≡ free_place f n
-  at_p r q = ap (λ (k : ℕ). get_or ps' k empty_place) q ∙ cut.here
+module _ {ps : List Place} {hs : List (Option ℕ)} (ch : Chained ps hs) (p : ℕ) {e t : ℕ} (le : e < ENTRIES) where
+  past_head : Walked ps hs e t None (Some p) → LedPast ps ps hs (set hs e (next_at ps p)) p
+  past_head w =
+      let o = w.of p refl in
+      let is : get_or hs e None ≡ Some p = sym (w.first refl) in
+      record {
+        version = λ r. refl;
+        below = λ r. refl;
+        held = λ r l. inl (
+          (λ x.
+              let k = ch.next r l in
+              let q = k.of p x in
+              omega (arith, k.below, ap (time_or_zero ps) x, ap (time_or_zero ps) is, (ch.head e le).newest r (l, sym q.1 ∙ o.1) (ch.times r))),
+          refl,
+        );
+        free = λ r _. refl;
+        heads = λ d l. elim (cases_eq d e) [
+          | inl q ↦ inr (rw q is, rw q (get_or-set_same hs e (next_at ps p) None (omega (arith, ch.heads))))
+          | inr ne ↦ inl ((λ x. ne (sym ((ch.head d l).of p x).1 ∙ o.1)), get_or-set_other hs e d (next_at ps p) None ne)
+        ];
+        len = refl;
+        heads_len = length-set hs e (next_at ps p);
+      }
+
+  module _ (b : ℕ) (w : Walked ps hs e t (Some b) (Some p)) where
+    abbrev led : Place
+    led = led_place (get_or ps b empty_place) (next_at ps p)
+
+    inside : b < length ps
+    inside = in_places ps b (w.later b refl).0.0
+
+    past_place : LedPast ps (set ps b led) hs hs p
+    past_place =
+        let l = w.later b refl in
+        let nb = ch.next b l.0.0 in
+        let top = ap (time_or_zero ps) l.2 in
+        let under : time_at ps p < time_at ps b = omega (arith, nb.below) in
+        let same : entry_at ps p ≡ entry_at ps b = (nb.of p l.2).1 in
+        record {
+          version = λ r. let at_r = written ps b led inside r in grind arith;
+          below = λ r. let at_r = written ps b led inside r in grind arith;
+          held = λ r lr. elim (cases_eq r b) [
+            | inl q ↦ inr (rw q l.2, rw q (let at_b = written ps b led inside b in grind arith))
+            | inr ne ↦ inl (
+              (λ x.
+                  let k = ch.next r lr in
+                  let of_r = k.of p x in
+                  let top_r = ap (time_or_zero ps) x in
+                  let older = nb.newest r in
+                  let newer = k.newest b in
+                  let once = ch.once r b in
+                  grind (arith, k.below)),
+              ap next_of (get_or-set_other ps b r led empty_place ne),
+            )
+          ];
+          free = λ r z. ap next_of (get_or-set_other ps b r led empty_place (λ q. omega (arith, ap (time_at ps) q, l.0.0)));
+          heads = λ d ld. inl ((λ x. let k = ch.head d ld in omega (arith, k.newest b (l.0.0, sym same ∙ (k.of p x).1) (ch.times b), ap (time_or_zero ps) x)), refl);
+          len = length-set ps b led;
+          heads_len = refl;
+        }
+
+  past : (b : Option ℕ) → Walked ps hs e t b (Some p) → LedPast ps (led_places ps b (next_at ps p)) hs (led_heads hs e b (next_at ps p)) p
+  past None w = past_head w
+  past (Some b) w = past_place b w
+
+-- ---- the place put before the free ones
+
+module _ {ps qs : List Place} {hs hs' : List (Option ℕ)} {f : Option ℕ} {n h : ℕ} (s : Sound ps hs f n h) (p : ℕ) (was : 0 < time_at ps p) (past-p : LedPast ps qs hs hs' p) where
+  abbrev out : Place
+  out = free_place f n
+
+  abbrev ps' : List Place
+  ps' = set qs p out
+
+  there : p < length qs
+  there = omega (arith, in_places ps p was, past-p.len)
+
+  same_len : length ps' ≡ length ps
+  same_len = length-set qs p out ∙ past-p.len
+
+  nx : LeadsTo ps (entry_at ps p) (time_at ps p) (next_at ps p)
+  nx = s.chained.next p was
 
   -- what is at a place now
-  at : (r : ℕ) → ((r ≡ p) × (time_at ps' r ≡ 0) × (next_at ps' r ≡ f) × (below_at ps' r ≡ n)) ⊎ ((r ≢ p) × ((time_at ps' r ≡ time_at ps r) × (entry_at ps' r ≡ entry_at ps r) × (below_at ps' r ≡ below_at ps r)))
-  at r = elim (cases_eq r p) [
-    | inl q ↦ inl (q, ap (λ (x : Place). (version_of x).time) (at_p r q), ap next_of (at_p r q), ap below_of (at_p r q))
-    | inr ne ↦ inr (ne, alike cut.like r ne)
+  at : (r : ℕ) → ((r ≡ p) × (get_or ps' r empty_place ≡ out)) ⊎ ((r ≢ p) × (version_of (get_or ps' r empty_place) ≡ version_of (get_or ps r empty_place)) × (next_at ps' r ≡ next_at qs r) × (below_at ps' r ≡ below_at ps r))
+  at r = elim (written qs p out there r) [
+    | inl k ↦ inl k
+    | inr k ↦ inr (k.0, ap version_of k.1 ∙ past-p.version r, ap next_of k.1, ap below_of k.1 ∙ past-p.below r)
   ]
 
   -- ---- the chains
 
-  next_some : (a b : ℕ) → 0 < time_at ps' a → next_at ps' a ≡ Some b → OfEntry ps' (entry_at ps' a) b × (time_at ps' b < time_at ps' a) × ((r : ℕ) → OfEntry ps' (entry_at ps' a) r → time_at ps' r < time_at ps' a → time_at ps' r ≤ time_at ps' b)
-  next_some a b l x =
-      let at_a = at a in
-      let at_b = at b in
-      let passed = cut.n_cut a in
-      let old = ch.next_some a b in
-      let one = ch.next_some a p in
-      let two = ch.next_some p b was in (
-        (grind arith, grind arith),
-        grind arith,
-        λ r o y.
-            let at_r = at r in
-            let once = ch.once r p in
-            let old_r = λ (w : 0 < time_at ps a) (e : next_at ps a ≡ Some b). (old w e).2 r in
-            let one_r = λ (w : 0 < time_at ps a) (e : next_at ps a ≡ Some p). (one w e).2 r in
-            let two_r = λ (e : next_at ps p ≡ Some b). (two e).2 r in
-            grind arith,
-      )
+  -- what led elsewhere still does
+  unpassed : {d t : ℕ} {o : Option ℕ} → LeadsTo ps d t o → o ≢ Some p → LeadsTo ps' d t o
+  unpassed k ne = carried k (λ q x w. let at_q = at q in let z : q ≢ p = λ y. ne (rw (← y) x) in ((grind arith, grind arith), grind arith)) (λ r a l. let at_r = at r in ((grind arith, grind arith), grind arith))
 
-  next_none : (a : ℕ) → 0 < time_at ps' a → next_at ps' a ≡ None → (r : ℕ) → OfEntry ps' (entry_at ps' a) r → time_at ps' a ≤ time_at ps' r
-  next_none a l x r o =
-      let at_a = at a in
-      let at_r = at r in
-      let passed = cut.n_cut a in
-      let once = ch.once r p in
-      let old = ch.next_none a in
-      let one = ch.next_some a p in
-      let one_r = λ (w : 0 < time_at ps a) (e : next_at ps a ≡ Some p). (one w e).2 r in
-      let two = ch.next_none p was in
-      grind arith
+  passed : {d t : ℕ} {o o' : Option ℕ} → LeadsTo ps d t o → Passed ps p o o' → LeadsTo ps' d t o'
+  passed k (inl x) = rw x.1 (unpassed k x.0)
+  passed {d} {t} k (inr x) =
+      let e : entry_at ps p ≡ d = (k.of p x.0).1 in
+      let top = ap (time_or_zero ps) x.0 in
+      let on = unpassed nx (λ y. omega (arith, nx.below, ap (time_or_zero ps) y)) in
+      rw x.1 (record {
+        of = λ q y. let l = on.of q y in (l.0, l.1 ∙ e);
+        below = omega (arith, on.below, k.below);
+        newest = λ r a l. let at_r = at r in let old = k.newest r in let once = s.chained.once r p in let older = on.newest r in grind arith;
+      })
 
-  head_some : (d q : ℕ) → get_or hs' d None ≡ Some q → OfEntry ps' d q × ((r : ℕ) → OfEntry ps' d r → time_at ps' r ≤ time_at ps' q)
-  head_some d q x =
-      let at_q = at q in
-      let passed = cut.h_cut d in
-      let old = ch.head_some d q in
-      let one = ch.head_some d p in
-      let two = ch.next_some p q was in (
-        (grind arith, grind arith),
-        λ r o.
-            let at_r = at r in
-            let once = ch.once r p in
-            let old_r = λ (e : get_or hs d None ≡ Some q). (old e).1 r in
-            let one_r = λ (e : get_or hs d None ≡ Some p). (one e).1 r in
-            let two_r = λ (e : next_at ps p ≡ Some q). (two e).2 r in
-            grind arith,
-      )
-
-  head_none : (d : ℕ) → get_or hs' d None ≡ None → d < 1024 → (r : ℕ) → OfEntry ps' d r → ⊥
-  head_none d x l r o =
-      let at_r = at r in
-      let passed = cut.h_cut d in
-      let once = ch.once r p in
-      let old = ch.head_none d in
-      let one = ch.head_some d p in
-      let one_r = λ (e : get_or hs d None ≡ Some p). (one e).1 r in
-      let two = ch.next_none p was in
-      grind arith
+  next : (a : ℕ) → 0 < time_at ps' a → LeadsTo ps' (entry_at ps' a) (time_at ps' a) (next_at ps' a)
+  next a l = elim (at a) [
+    | inl k ↦ absurd (omega (arith, ap (λ (x : Place). (version_of x).time) k.1))
+    | inr k ↦ (
+        let m : 0 < time_at ps a = omega (arith, ap (λ (v : Version). v.time) k.1) in
+        subst (λ (v : Version). LeadsTo ps' v.entry v.time (next_at ps' a)) (sym k.1) (rw k.2 (passed (s.chained.next a m) (past-p.held a m)))
+        )
+  ]
 
   chained : Chained ps' hs'
   chained = record {
-    entries = λ r l. let at_r = at r in let old = ch.entries r in grind arith;
-    once = λ a b l x y. let at_a = at a in let at_b = at b in let old = ch.once a b in grind arith;
-    next_some = next_some;
-    next_none = next_none;
-    head_some = head_some;
-    head_none = head_none;
-    heads = cut.h_len ∙ ch.heads;
+    entries = λ r l. let at_r = at r in let old = s.chained.entries r in grind arith;
+    times = λ r. let at_r = at r in let old = s.chained.times r in grind arith;
+    once = λ a b l x y. let at_a = at a in let at_b = at b in let old = s.chained.once a b in grind arith;
+    next = next;
+    head = λ d l. passed (s.chained.head d l) (past-p.heads d l);
+    heads = past-p.heads_len ∙ s.chained.heads;
   }
 
   -- ---- the free places
 
+  -- a free place is p, or was free and leads where it led
+  free : (a k : ℕ) → Free ps' a k → ((a ≡ p) × (k ≡ n) × (next_at ps' a ≡ f)) ⊎ (Free ps a k × (next_at ps' a ≡ next_at ps a))
+  free a k o = elim (at a) [
+    | inl x ↦ inl (x.0, cc (ap below_of x.1, o.1), ap next_of x.1)
+    | inr x ↦ (let b = sym x.3 ∙ o.1 in inr ((omega (arith, o.0, same_len), b), x.2 ∙ past-p.free a (free_time (get_or ps a empty_place) k b)))
+  ]
+
+  still : {k : ℕ} {o : Option ℕ} → LeadsFree ps k o → LeadsFree ps' k o
+  still l = record {
+    some = λ q x. let at_q = at q in let old = l.some q x in let held = was in let len = same_len in ((grind arith, grind arith), grind arith);
+    none = l.none;
+  }
+
   freed : Freed ps' (Some p) (n + 1)
   freed = record {
-    next_some = λ a b o x.
-        let at_a = at a in
-        let at_b = at b in
-        let len = cut.like.len in
-        let same = cut.f_same a in
-        let first = s.freed.first_some b in
-        let old = s.freed.next_some a b in
-        ((grind arith, grind arith), grind arith);
-    next_none = λ a o x. let at_a = at a in let len = cut.like.len in let same = cut.f_same a in let none = s.freed.first_none in let old = s.freed.next_none a in grind arith;
-    under = λ a o. let at_a = at a in let len = cut.like.len in let old = s.freed.under a in grind arith;
-    once = λ a b o w x. let at_a = at a in let at_b = at b in let len = cut.like.len in let under_a = s.freed.under a in let under_b = s.freed.under b in let old = s.freed.once a b in grind arith;
-    first_some = λ q x. let at_q = at q in let len = cut.like.len in let there = in_places ps p was in ((grind arith, grind arith), grind arith);
-    first_none = λ x. cc;
+    first = record {
+      some = λ q x. let at_q = at q in let in_p = there in let len = length-set qs p out in ((grind arith, grind arith), grind arith);
+      none = λ x. cc;
+    };
+    next = λ a k o. elim (free a k o) [ inl x ↦ rw (x.2, x.1) (still s.freed.first) | inr x ↦ rw x.1 (still (s.freed.next a k x.0)) ];
+    under = λ a k o. elim (free a k o) [ inl x ↦ omega (arith, x.1) | inr x ↦ omega (arith, s.freed.under a k x.0) ];
+    once = λ a b k o y. let at_a = free a k o in let at_b = free b k y in let under_a = s.freed.under a k in let under_b = s.freed.under b k in let old = s.freed.once a b k in grind arith;
   }
 
   -- ---- the whole
 
-  cut_kept : kept_in ps' ≡ without (kept_in ps) (entry_at ps p) (time_at ps p)
+  pub cut_kept : kept_in ps' ≡ without (kept_in ps) (entry_at ps p) (time_at ps p)
   cut_kept =
       same_set _ _ (entry_at ps p) (time_at ps p)
-      (none_kept ps' (entry_at ps p) (time_at ps p) (λ r o w. let at_r = at r in let once = ch.once r p in grind arith)
+      (none_kept ps' (entry_at ps p) (time_at ps p) (λ r o w. let at_r = at r in let once = s.chained.once r p in grind arith)
       ∙ sym (without_here (kept_in ps) (entry_at ps p) (time_at ps p)))
       (λ d u ne.
-      like_kept cut.like d u (holds_not (version_of (get_or ps' p empty_place)) d u (λ l x y. omega (arith, ap (λ (x : Place). (version_of x).time) cut.here)) ∙ sym (holds_not (version_of (get_or ps p empty_place)) d u (λ l x y. ne (sym x) (sym y))))
+      set_of-alike version_of empty_place ps ps' d u same_len
+      (λ r. elim (at r) [
+        | inl k ↦ ap (λ (x : Place). holds (version_of x) d u) k.1 ∙ holds_not (version_of out) d u (λ l x y. omega arith) ∙ sym (rw k.0 (holds_not (version_of (get_or ps p empty_place)) d u (λ l x y. ne (sym x) (sym y))))
+        | inr k ↦ ap (λ (v : Version). holds v d u) k.1
+      ])
       ∙ sym (without_other (kept_in ps) (entry_at ps p) (time_at ps p) d u ne))
 
-  cut_sound : (k : ℕ) → h ≡ k + 1 → Sound ps' hs' (Some p) (n + 1) k
-  cut_sound k hk = record {
+  pub cut_sound : Sound ps' hs' (Some p) (n + 1) (h - 1)
+  cut_sound = record {
     chained = chained;
     freed = freed;
     counted = omega (arith, less_by s p was, ap held_in cut_kept);
-    total = omega (arith, cut.like.len, s.total);
-    times = λ r. let at_r = at r in let old = s.times r in grind arith;
-    timed = λ r. elim (cases_eq r p) [ inl q ↦ subst Timed (sym (at_p r q)) (free_timed f n) | inr ne ↦ cut.like.timed r ne (s.timed r) ];
+    total = omega (arith, same_len, s.total, less_by s p was);
   }
 
--- ---- the two ways to cut: p is its entry's newest, or the place b leads to it
+-- ---- the same in a keeper: x is the place p as it was read, which a walk has come to
 
-module _ {ps : List Place} {hs : List (Option ℕ)} (ch : Chained ps hs) (p : ℕ) where
-  -- nothing but b leads to p
-  only : (b r : ℕ) → 0 < time_at ps b → next_at ps b ≡ Some p → 0 < time_at ps r → next_at ps r ≡ Some p → r ≡ b
-  only b r lb x lr y =
-      let nb = ch.next_some b p lb x in
-      let nr = ch.next_some r p lr y in
-      let older = nb.2 r in
-      let newer = nr.2 b in
-      let same = ch.once r b lr in
-      grind arith
+module _ (k : Linked) {e t : ℕ} {b a : Option ℕ} (w : Walked k.places.now k.heads e t b a) {p : ℕ} (is : a ≡ Some p) {x : Place} (read : x ≡ get_or k.places.now p empty_place) where
+  time_is : (version_of x).time ≡ t → time_at k.places.now p ≡ t
+  time_is at = ap (λ (y : Place). (version_of y).time) (sym read) ∙ at
 
-  abbrev led : ℕ → Place
-  led b = led_place (get_or ps b empty_place) (next_at ps p)
+  pub out_found : (version_of x).time ≡ t → is_some (linked_kept k e t) ≡ true
+  out_found at = subst (λ (u : ℕ). is_some (linked_kept k e u) ≡ true) (time_is at) (ap is_some (kept_at k.sound.chained e p (w.of p is)))
 
-  -- led on, b is as it was but for its next
-  led_same : {X : Type 0} (b r : ℕ) (g : Place → X) → b < length ps → g (led b) ≡ g (get_or ps b empty_place) → g (get_or (set ps b (led b)) r empty_place) ≡ g (get_or ps r empty_place)
-  led_same b r g l same = elim (cases_eq r b) [
-    | inl q ↦ rw q (ap g (get_or-set_same ps b (led b) empty_place l) ∙ same)
-    | inr ne ↦ ap g (get_or-set_other ps b r (led b) empty_place ne)
-  ]
+  -- in qs, what led to p leads on
+  module _ {qs : List Place} {gs : List (Option ℕ)} (le : e < ENTRIES) (qs-is : qs ≡ led_places k.places.now b (next_of x)) (gs-is : gs ≡ led_heads k.heads e b (next_of x)) where
+    past-p : LedPast k.places.now qs k.heads gs p
+    past-p = rw (qs-is, gs-is, read) (past k.sound.chained p le b (subst (Walked k.places.now k.heads e t b) is w))
 
-  still_timed : (b r : ℕ) → b < length ps → Timed (get_or ps r empty_place) → Timed (get_or (set ps b (led b)) r empty_place)
-  still_timed b r l t = elim (cases_eq r b) [
-    | inl q ↦ rw (q, get_or-set_same ps b (led b) empty_place l) (led_timed (get_or ps b empty_place) (next_at ps p) (rw q at t))
-    | inr ne ↦ rw (get_or-set_other ps b r (led b) empty_place ne) t
-  ]
+    pub out_means : (version_of x).time ≡ t → holding (length (set qs p (free_place k.free.first k.free.count))) (kept_in (set qs p (free_place k.free.first k.free.count))) ≡ removed (linked_means k) e t
+    out_means at = ap₂ holding (length-set qs p _ ∙ past-p.len) (cut_kept k.sound p (w.of p is).0 past-p ∙ ap₂ (λ (d u : ℕ). without (linked_kept k) d u) (w.of p is).1 (time_is at))
 
-  module _ (f : Option ℕ) (n : ℕ) where
-    abbrev out : Place
-    out = free_place f n
-
-    module _ {e t : ℕ} where
-      cut_head : After ps hs e t None (Some p) → e < 1024 → Cut ps (set ps p out) hs (set hs e (next_at ps p)) p f n
-      cut_head af le =
-          let top = ch.head_some e p (sym (af.first refl)) in
-          let here : get_or (set ps p out) p empty_place ≡ out = get_or-set_same ps p out empty_place (in_places ps p top.0.0) in
-          let other : (r : ℕ) → r ≢ p → next_at (set ps p out) r ≡ next_at ps r = λ r ne. ap next_of (get_or-set_other ps p r out empty_place ne) in
-          record {
-            like = like_set ps p out;
-            here = here;
-            f_same = λ r ne _. other r ne;
-            n_cut = λ r ne l. inl ((λ x. let k = ch.next_some r p l x in omega (arith, top.1 r (l, sym k.0.1 ∙ top.0.1), k.1)), other r ne);
-            h_cut = λ d. elim (cases_eq d e) [
-              | inl q ↦ inr (ap (λ (k : ℕ). get_or hs k None) q ∙ sym (af.first refl), ap (λ (k : ℕ). get_or (set hs e (next_at ps p)) k None) q ∙ get_or-set_same hs e (next_at ps p) None (omega (arith, ch.heads)))
-              | inr ne ↦ inl ((λ x. ne (sym (ch.head_some d p x).0.1 ∙ top.0.1)), get_or-set_other hs e d (next_at ps p) None ne)
-            ];
-            h_len = length-set hs e (next_at ps p);
-          }
-
-      cut_next : (b : ℕ) → After ps hs e t (Some b) (Some p) → Cut ps (set (set ps b (led b)) p out) hs hs p f n
-      cut_next b af =
-          let w = af.later b refl in
-          let nx = ch.next_some b p w.0.0 w.2 in
-          let in_b = in_places ps b w.0.0 in
-          let in_p : p < length (set ps b (led b)) = simp length-set (in_places ps p nx.0.0) in
-          let like-p = like_set (set ps b (led b)) p out in
-          let here : get_or (set (set ps b (led b)) p out) p empty_place ≡ out = get_or-set_same (set ps b (led b)) p out empty_place in_p in
-          let next-p : (r : ℕ) → r ≢ p → next_at (set (set ps b (led b)) p out) r ≡ next_at (set ps b (led b)) r = λ r ne. ap next_of (get_or-set_other (set ps b (led b)) p r out empty_place ne) in
-          let other : (r : ℕ) → r ≢ p → r ≢ b → next_at (set (set ps b (led b)) p out) r ≡ next_at ps r = λ r ne nb. next-p r ne ∙ ap next_of (get_or-set_other ps b r (led b) empty_place nb) in
-          record {
-            like = record {
-              version = λ r ne. like-p.version r ne ∙ led_same b r version_of in_b (led_version (get_or ps b empty_place) (next_at ps p));
-              below = λ r ne. like-p.below r ne ∙ led_same b r below_of in_b (led_below (get_or ps b empty_place) (next_at ps p));
-              timed = λ r ne t. like-p.timed r ne (still_timed b r in_b t);
-              len = like-p.len ∙ length-set ps b (led b);
-            };
-            here = here;
-            f_same = λ r ne z. other r ne (λ q. omega (arith, ap (time_at ps) q, w.0.0));
-            n_cut = λ r ne l. elim (cases_eq r b) [
-              | inl q ↦ inr (ap (next_at ps) q ∙ w.2, next-p r ne ∙ ap (next_at (set ps b (led b))) q ∙ ap next_of (get_or-set_same ps b (led b) empty_place in_b) ∙ led_next (get_or ps b empty_place) (next_at ps p) w.0.0)
-              | inr nb ↦ inl ((λ x. nb (only b r w.0.0 w.2 l x)), other r ne nb)
-            ];
-            h_cut = λ d. inl ((λ x. let top = ch.head_some d p x in omega (arith, top.1 b (w.0.0, sym nx.0.1 ∙ top.0.1), nx.1)), refl);
-            h_len = refl;
-          }
-
-      cut_out : (b : Option ℕ) → After ps hs e t b (Some p) → e < 1024 → Cut ps (set (led_places ps b (next_at ps p)) p out) hs (led_heads hs e b (next_at ps p)) p f n
-      cut_out None af le = cut_head af le
-      cut_out (Some b) af le = cut_next b af
-
--- ---- the same in a keeper's memory: x is the place p as it was read, which a walk has come to
-
-module _ (k : Linked) {e t : ℕ} {b a : Option ℕ} (af : After (linked_used k) k.heads e t b a) where
-  before_in : (q : ℕ) → b ≡ Some q → q < length (linked_used k)
-  before_in q so = in_places (linked_used k) q (af.later q so).0.0
-
-  -- the place before it holds a version
-  pub before_memory : {ys : List Place} → ys ≡ k.places.items → (q : ℕ) → b ≡ Some q → 0 < time_at ys q
-  before_memory is q so = rw is (omega (arith, ap (λ (x : Place). (version_of x).time) (get_or-take most_places k.places.items q empty_place (used_in k q (before_in q so)).1), (af.later q so).0.0))
-
-  module _ (p : ℕ) (is : a ≡ Some p) where
-    of : OfEntry (linked_used k) e p
-    of = (at_place (chain_of k) p af is).0
-
-    pub in_used : p < length (linked_used k)
-    in_used = in_places (linked_used k) p of.0
-
-    pub some_held : 1 ≤ k.held
-    some_held = omega (arith, less_by (sound_of k) p of.0)
-
-    module _ {x : Place} (read : x ≡ get_or (linked_used k) p empty_place) (at : (version_of x).time ≡ t) where
-      time_is : time_at (linked_used k) p ≡ t
-      time_is = ap (λ (y : Place). (version_of y).time) (sym read) ∙ at
-
-      pub out_found : is_some (linked_kept k e t) ≡ true
-      out_found = subst (λ (u : ℕ). is_some (linked_kept k e u) ≡ true) time_is (ap is_some (kept_at (chain_of k) e p of))
-
-      -- in ws, what led to p leads on; in the memory after, p is free too
-      module _ {ys ws : List Place} {gs : List (Option ℕ)} {P : Place} {r : ℕ} (le : e < 1024) (ys-is : ys ≡ k.places.items) (ws-is : ws ≡ led_places ys b (next_of x)) (gs-is : gs ≡ led_heads k.heads e b (next_of x)) (len : length ws ≡ small_vec_len k.places) (r-is : r ≡ p) (P-is : P ≡ free_place k.free.first k.free.count) where
-        -- the memory after
-        abbrev zs : List Place
-        zs = (with_items k.places (set ws r P)).items
-
-        written : zs ≡ set ws r P
-        written = items-with_items k.places (set ws r P) (length-set ws r P ∙ len)
-
-        led_are : used_places ws ≡ led_places (linked_used k) b (next_at (linked_used k) p)
-        led_are =
-            ap used_places (ws-is ∙ ap (λ (qs : List Place). led_places qs b (next_of x)) ys-is)
-            ∙ used_led k.places.items b (next_of x) (λ q so. (used_in k q (before_in q so)).1)
-            ∙ ap (λ (y : Place). led_places (linked_used k) b (next_of y)) read
-
-        places_are : used_places zs ≡ set (led_places (linked_used k) b (next_at (linked_used k) p)) p (free_place k.free.first k.free.count)
-        places_are =
-            ap used_places written
-            ∙ ap (λ (q : ℕ). used_places (set ws q P)) r-is
-            ∙ take-set-lt most_places ws p P (used_in k p in_used).1
-            ∙ ap₂ (λ (qs : List Place) (y : Place). set qs p y) led_are P-is
-
-        cut : Cut (linked_used k) (used_places zs) k.heads gs p k.free.first k.free.count
-        cut =
-            subst (λ (ps : List Place). Cut (linked_used k) ps k.heads gs p k.free.first k.free.count) (sym places_are)
-            (rw (gs-is, read) (cut_out (chain_of k) p k.free.first k.free.count b (subst (After (linked_used k) k.heads e t b) is af) le))
-
-        pub out_kept : kept_in (used_places zs) ≡ without (linked_kept k) e t
-        out_kept = cut_kept (sound_of k) of.0 cut ∙ ap₂ (λ (d u : ℕ). without (linked_kept k) d u) of.1 time_is
-
-        pub out_sound : Sound (used_places zs) gs (Some p) (k.free.count + 1) (k.held - 1)
-        out_sound = cut_sound (sound_of k) of.0 cut (k.held - 1) (omega (arith, some_held))
+    pub out_sound : Sound (set qs p (free_place k.free.first k.free.count)) gs (Some p) (k.free.count + 1) (k.held - 1)
+    out_sound = cut_sound k.sound p (w.of p is).0 past-p

@@ -1,7 +1,7 @@
+pub mod Held
 pub mod Adds
 pub mod Chains
 pub mod Cuts
 pub mod Edits
 pub mod Facts
 pub mod News
-pub mod Numbers

@@ -1,12 +1,8 @@
-// A keeper in linked places: each entry's versions in a chain of their own, the newest first.
+//! A keeper in linked places: each entry's versions in a chain of their own, the newest first, and the free places in another.
 #![tactic(auto)]
 
-mod calls;
 pub mod keeper;
-mod making;
 pub mod place;
-mod reading;
-mod walks;
 
-pub use crate::keeper::{Linked, Memory, SMALL};
+pub use crate::keeper::Linked;
 pub use crate::place::Place;

@@ -1,6 +1,6 @@
-// A place for one version.
-ghost use Rattle.std.specs.Prelude.{◌≡◌};
-ghost use Rattle.linked.specs.Chain.{empty_place, held_place, free_place};
+//! A place for one version.
+ghost use Rattle.std.specs.Prelude.{◌≡◌, ◌<◌};
+ghost use Rattle.linked.specs.Chain.{empty_place, held_place, free_place, place_at, time_at};
 
 use keepers::version::Version;
 
@@ -25,14 +25,14 @@ pub(crate) enum Content {
     Free(FreePlaces),
 }
 
-// A place of the memory. What is in it is the keeper's alone.
+/// A place of the memory that a host lends. What is in it is the keeper's alone.
 #[derive(Clone, Copy)]
 pub struct Place {
     pub(crate) content: Content,
 }
 
 impl Place {
-    // A free place, of which a host makes memory.
+    /// A place that holds no version, of which a host makes memory, as in `[Place::empty(); 8]`.
     pub fn empty() -> Place
         ensures { result ≡ empty_place }
     {
@@ -58,9 +58,19 @@ impl Place {
     }
 }
 
-// What lies in a keeper itself is blank where it is not used.
 impl Default for Place {
     fn default() -> Place {
         Place::empty()
+    }
+}
+
+// The link in a place that holds a version. It takes the places, so that a walk asks once where they lie.
+pub(crate) fn link_in(places: &[Place], p: u16) -> Link
+    requires { 0 < time_at places.now p }
+    ensures { held_place result ≡ place_at places.now p }
+{
+    match places[usize::from(p)].content {
+        Content::Held(link) => link,
+        Content::Free(_) => unreachable!(),
     }
 }

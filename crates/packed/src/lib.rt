@@ -1,4 +1,5 @@
-// The packed form of a card.
+//! The packed form of a card.
 #![tactic(auto)]
 
 pub mod packing;
+pub mod theorems;

@@ -1,13 +1,12 @@
-// The packed form of a card: the bit map's byte, then the fields that are there.
-ghost use Rattle.std.specs.Prelude.{◌≡◌, ℕ, ◌+◌, ◌*◌, ◌<◌, ◌≤◌, true, List, ◌++◌, length, take, drop, is_some, Some, None, MatchResult};
-ghost use Rattle.cards.specs.Cards.{Fit, Fits};
-ghost use Rattle.packed.specs.Packed.{packed, bits_set, field_bytes, pack_answer, pack_buffer, unpack_refusal};
-ghost use Rattle.cards.specs.declared.card.Card.{Card};
+//! The packed form of a card: the bit map's byte, then the fields that are there.
+ghost use Rattle.std.specs.Prelude.{◌≡◌, ℕ, ◌+◌, ◌*◌, ◌<◌, ◌≤◌, IsTrue, IfOk, IfErr, ◌++◌, length, take, drop, is_some};
+ghost use Rattle.cards.specs.Cards.{Fit};
+ghost use Rattle.packed.specs.Packed.{packed, bits_set, field_bytes, pack_answer, pack_buffer, Unpacks, Unreadable};
 
 use cards::card::Card;
 use cards::refusal::Refusal;
 
-// The length of a packed card, by its bit map. The format takes it from a table, so none is computed.
+// The length of a packed card, by its bit map: a table of the format.
 const LENGTHS: [u8; 64] = [
     1, 3, 3, 5, 3, 5, 5, 7, 3, 5, 5, 7, 5, 7, 7, 9, 3, 5, 5, 7, 5, 7, 7, 9, 5, 7, 7, 9, 7, 9, 9,
     11, 3, 5, 5, 7, 5, 7, 7, 9, 5, 7, 7, 9, 7, 9, 9, 11, 5, 7, 7, 9, 7, 9, 9, 11, 7, 9, 9, 11, 9,
@@ -17,15 +16,15 @@ const LENGTHS: [u8; 64] = [
 // A bit map is below this number.
 const MAPS: u8 = 64;
 
-// The only reader of the table: one byte, and two more for each bit.
+// The length from the table: one byte for the map, and two for each field that is there.
 fn length_of(map: u8) -> usize
-    requires { map < 64 }
+    requires { map < MAPS }
     ensures { result ≡ 1 + 2 * bits_set map }
 {
     usize::from(LENGTHS[usize::from(map)])
 }
 
-// How many bytes a card packs to.
+/// How many bytes a card packs to: an odd number, 1 to 13.
 #[tactic(auto, using(crate::proofs::Fields::packed_length))]
 pub fn packed_len(card: Card) -> usize
     ensures { result ≡ length (packed card) }
@@ -33,8 +32,7 @@ pub fn packed_len(card: Card) -> usize
     length_of(card.map())
 }
 
-// Writes a field's bytes from a place on, and says where they end. It could hand back the rest of the buffer in place of a number, but then
-// a clause would have to say how what is written there comes back.
+// Writes a field's bytes from a place on, and answers where they end.
 fn put_field(out: &mut [u8], at: usize, field: Option<i16>) -> usize
     requires { at + length (field_bytes field) ≤ length out.old }
     ensures end { result ≡ at + length (field_bytes field) }
@@ -50,8 +48,9 @@ fn put_field(out: &mut [u8], at: usize, field: Option<i16>) -> usize
     }
 }
 
-// Writes a card at the front of a buffer and answers its length. Bytes behind it stay; where it has no room, all do. The buffer is the
-// caller's, so it is lent and no `Vec` is made.
+/// Writes a card at the front of a buffer and answers how many bytes it takes. The bytes behind it stay.
+///
+/// Declined by `Short` for a buffer with fewer bytes than the card takes, which then stays whole.
 #[tactic(auto, using(crate::proofs::Fields::packed_length))]
 pub fn pack(card: Card, out: &mut [u8]) -> Result<usize, Refusal>
     ensures answer { result ≡ pack_answer card (length out.old) }
@@ -61,9 +60,7 @@ pub fn pack(card: Card, out: &mut [u8]) -> Result<usize, Refusal>
     if out.len() < length_of(map) {
         return Err(Refusal::Short);
     }
-    // One byte; no call says it in fewer words.
     out[0] = map;
-    // Six steps, since a card is six named fields and no array.
     let at = put_field(out, 1, card.advance);
     let at = put_field(out, at, card.left_bearing);
     let at = put_field(out, at, card.anchor_across);
@@ -75,7 +72,7 @@ pub fn pack(card: Card, out: &mut [u8]) -> Result<usize, Refusal>
 
 // Reads a field from the front of the bytes, if it is there, and gives what follows.
 fn take_field(bytes: &[u8], present: bool) -> (Option<i16>, &[u8])
-    requires { present ≡ true → 2 ≤ length bytes.now }
+    requires { IsTrue present → 2 ≤ length bytes.now }
     ensures parts { bytes.now ≡ field_bytes result.0 ++ result.1.now }
     ensures there { is_some result.0 ≡ present }
     ensures fit { Fit result.0 }
@@ -88,10 +85,13 @@ fn take_field(bytes: &[u8], present: bool) -> (Option<i16>, &[u8])
     }
 }
 
-// Reads one card from the front of the bytes, and gives what follows it.
+/// Reads one card from the front of the bytes, and answers it with the bytes that follow it.
+///
+/// Declined by `Short` for no byte, by `Map` for a first byte of 64 or more, and by `Short` for fewer bytes than that map's card takes.
+#[tactic(auto, using(crate::proofs::Fields::unreadable))]
 pub fn unpack(bytes: &[u8]) -> Result<(Card, &[u8]), Refusal>
-    ensures answer { MatchResult result (λ x. (unpack_refusal bytes.now ≡ None) × (bytes.now ≡ packed x.0 ++ x.1.now)) (λ e. unpack_refusal bytes.now ≡ Some e) }
-    ensures inverse { (c : Card) (rest : List ℕ) → Fits c → bytes.now ≡ packed c ++ rest → MatchResult result (λ x. (x.0 ≡ c) × (x.1.now ≡ rest)) (λ _. ⊥) }
+    ensures card { IfOk result (λ x. Unpacks bytes.now x.0 x.1.now) }
+    ensures declined { IfErr result (λ e. Unreadable bytes.now e) }
 {
     let (&map, fields) = bytes.split_first().ok_or(Refusal::Short)?;
     if map >= MAPS {
@@ -100,7 +100,7 @@ pub fn unpack(bytes: &[u8]) -> Result<(Card, &[u8]), Refusal>
     if bytes.len() < length_of(map) {
         return Err(Refusal::Short);
     }
-    // Six steps again, by the map and its halves, as the format is defined.
+    // By the map and its halves, as the format is defined.
     let (advance, rest) = take_field(fields, map % 2 == 1);
     let (left_bearing, rest) = take_field(rest, map / 2 % 2 == 1);
     let (anchor_across, rest) = take_field(rest, map / 4 % 2 == 1);

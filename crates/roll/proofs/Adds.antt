@@ -4,23 +4,20 @@ use Rattle.std.specs.List.{All}
 use Rattle.std.proofs.lemmas.List.Elements.{All-from_get_or, All-push}
 use Rattle.std.proofs.lemmas.List.Quantifiers.{all_pairs_push}
 use Rattle.std.proofs.lemmas.List.{length-set, take_more_set}
-use Rattle.cards.specs.Versions.{with_card, newest_time, room}
-use Rattle.keepers.specs.Kept.{add_refusal, added}
-use Rattle.keepers.specs.Look.{no_version}
-use Rattle.keepers.specs.Memory.{most_places}
+use Rattle.cards.specs.Versions.{with_card, newest_time}
+use Rattle.keepers.specs.SetOf.{no_version}
 use Rattle.keepers.specs.declared.version.Version.{Version}
 use Rattle.cards.proofs.Counts.{same_set, with_here, with_other, held_more, held_none}
-use Rattle.cards.proofs.Newest.{below_bounds, taken}
-use Rattle.keepers.proofs.Looks.{look_append, or_else_none, holds_here, holds_not}
+use Rattle.cards.proofs.Newest.{below_bounds}
+use Rattle.keepers.proofs.SetsOf.{set_of-append, option_or_none, holds_here, holds_not}
 use Rattle.roll.specs.Arrivals.{Proper, Rising, kept_in, Arrived, Rolled}
-use Rattle.roll.specs.Laws.{none_at}
+use Rattle.roll.proofs.Held.{none_at}
 use Rattle.roll.proofs.Meanings.{kept_at}
 
 -- a roll without a version
 pub rolled_none : (xs : List Version) → Rolled xs 0
 rolled_none xs = record {
   within = omega arith;
-  few = omega arith;
   arrived = record { each = λ p d l. absurd (omega arith); rising = λ i j d lt l. absurd (omega arith) };
   counted = sym (held_none _ (λ e t. refl));
 }
@@ -38,27 +35,20 @@ module _ (vs : List Version) (a : Arrived vs) (v : Version) (proper : Proper v) 
   fresh : kept_in vs v.entry v.time ≡ None
   fresh = none_at vs v.entry v.time (λ p l x y. omega (arith, before p no_version l x))
 
-  look_more : kept_in (vs ++ v ∷ []) ≡ with_card (kept_in vs) v.entry v.time v.card
-  look_more =
+  pub kept_more : kept_in (vs ++ v ∷ []) ≡ with_card (kept_in vs) v.entry v.time v.card
+  kept_more =
       let m = kept_in vs in
       same_set _ _ v.entry v.time
-      (rw (with_here m v.entry v.time v.card, look_append (λ w. w) vs (v ∷ []) v.entry v.time, fresh, holds_here v v.entry v.time proper.1 refl refl) refl)
-      (λ e t ne. rw (with_other m v.entry v.time v.card e t ne, look_append (λ w. w) vs (v ∷ []) e t, holds_not v e t (λ _ x y. ne (sym x) (sym y))) (or_else_none (m e t)))
+      (rw (with_here m v.entry v.time v.card, set_of-append (λ w. w) vs (v ∷ []) v.entry v.time, fresh, holds_here v v.entry v.time proper.1 refl refl) refl)
+      (λ e t ne. rw (with_other m v.entry v.time v.card e t ne, set_of-append (λ w. w) vs (v ∷ []) e t, holds_not v e t (λ _ x y. ne (sym x) (sym y))) (option_or_none (m e t)))
 
 -- a roll with a place to spare, where it arrives
-module _ (xs : List Version) (held places : ℕ) (v : Version) (s : Rolled xs held) (can : (held < length xs) × (held < most_places) × (0 < room places (kept_in (take held xs))) × (v.entry < 1024) × (v.time < 2 ^ 32) × (newest_time (kept_in (take held xs)) v.entry < v.time)) where
-  pub arrives : Rolled (set xs held v) (held + 1) × (kept_in (take (held + 1) (set xs held v)) ≡ added (add_refusal places (kept_in (take held xs)) v) (kept_in (take held xs)) v)
-  arrives =
-      let (inside, few, spare, entry, bits, late) = can in
-      let kept = kept_in (take held xs) in
-      let proper : Proper v = (entry, omega arith, bits) in
-      let front = take_more_set xs held v inside in
-      let looked = look_more (take held xs) s.arrived v proper late in (
-        record {
-          within = simp length-set (omega arith);
-          few = omega arith;
-          arrived = rw front (arrived_more (take held xs) s.arrived v proper late);
-          counted = rw (front, looked) (omega (arith, held_more kept v.entry v.time v.card entry bits (fresh (take held xs) s.arrived v proper late)));
-        },
-        rw (front, taken places kept v.entry v.time entry spare late) looked,
-      )
+pub rolled_more : (xs : List Version) (held : ℕ) (v : Version) → Rolled xs held → held < length xs → Proper v → newest_time (kept_in (take held xs)) v.entry < v.time → Rolled (set xs held v) (held + 1)
+rolled_more xs held v s spare proper late =
+    let vs = take held xs in
+    let front = take_more_set xs held v spare in
+    record {
+      within = simp length-set (omega arith);
+      arrived = rw front (arrived_more vs s.arrived v proper late);
+      counted = rw (front, kept_more vs s.arrived v proper late) (omega (arith, s.counted, held_more (kept_in vs) v.entry v.time v.card proper.0 proper.2 (fresh vs s.arrived v proper late)));
+    }

@@ -1,3 +1,4 @@
+pub mod Held
 pub mod Adds
 pub mod Gaps
 pub mod Meanings

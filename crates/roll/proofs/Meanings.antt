@@ -9,11 +9,11 @@ use Rattle.roll.specs.Arrivals.{kept_in, Arrived}
 use Rattle.roll.specs.Searches.{Placed, First}
 use Rattle.keepers.specs.Kept.{Newest, Follows}
 use Rattle.keepers.specs.Lists.{Last}
-use Rattle.keepers.specs.Look.{no_version}
-use Rattle.roll.specs.Laws.{none_at}
+use Rattle.keepers.specs.SetOf.{no_version}
+use Rattle.roll.proofs.Held.{none_at}
 use Rattle.keepers.specs.declared.version.Version.{Version}
 use Rattle.cards.proofs.Newest.{newest_none, newest_is}
-use Rattle.keepers.proofs.Looks.{look_some, filled_in}
+use Rattle.keepers.proofs.SetsOf.{set_of-some, filled_in}
 
 module _ (vs : List Version) (a : Arrived vs) where
   abbrev item : ℕ → Version
@@ -22,7 +22,7 @@ module _ (vs : List Version) (a : Arrived vs) where
   -- every version is held, since no other has its entry and time
   pub kept_at : (p : ℕ) → p < length vs → kept_in vs (item p).entry (item p).time ≡ Some (item p).card
   kept_at p l =
-      look_some (λ v. v) no_version vs _ _ p
+      set_of-some (λ v. v) no_version vs _ _ p
       (λ q o y. let k = filled_in (λ v. v) no_version vs q refl o.0 in grind (arith, a.rising p q no_version, a.rising q p no_version))
       ((a.each p no_version l).1, refl) refl refl
 

@@ -1,5 +1,3 @@
 pub mod Arrivals
 pub mod Searches
-pub mod Sound
 pub mod View
-pub mod Laws

@@ -1,7 +1,7 @@
 -- What a search of the versions finds.
 use Rattle.std.specs.Prelude.{◌≡◌, ℕ, ◌<◌, List, length, Some, None, Option, slice_index_or}
 use Rattle.std.specs.List.{All, AllWithin, HoldsAt}
-use Rattle.keepers.specs.Look.{no_version}
+use Rattle.keepers.specs.SetOf.{no_version}
 use Rattle.keepers.specs.declared.version.Version.{Version}
 use Rattle.roll.specs.Arrivals.{kept_in}
 

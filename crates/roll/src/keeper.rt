@@ -1,14 +1,163 @@
-// Versions in their order of arrival, in the front of memory that is handed in.
+//! Versions in their order of arrival, in the front of memory that is lent.
+ghost use Rattle.std.specs.Prelude.{◌≤◌, length};
+ghost use Rattle.std.proofs.Props.{props};
+ghost use Rattle.keepers.specs.declared.memory.TheConstants.{MOST_PLACES};
 ghost use Rattle.roll.specs.Arrivals.{Rolled};
-ghost use Rattle.roll.specs.Sound.{rolled_prop};
+ghost use Rattle.roll.specs.Searches.{First};
 
+use cards::entry::EntryNumber;
+use cards::refusal::Refusal;
+use keepers::keeper::Keeper;
+use keepers::memory::MOST_PLACES;
+use keepers::search::last_match;
 use keepers::version::Version;
 
-// The first places, `held` of them, hold a version each. The others are as they were handed in or left. The two stay a pair: a `Vec` cut to
-// its versions would neither give the memory back whole nor be made without touching it.
+/// A keeper over lent memory. The first places, `held` of them, hold a version each; the others are as they were lent or left. The host
+/// has its memory back where the loan ends.
 #[derive(Drop)]
-pub struct Roll {
-    pub(crate) places: Vec<Version>,
+pub struct Roll<'a> {
+    pub(crate) places: &'a mut [Version],
     pub(crate) held: usize,
-    ghost sound: { Rolled places.items held } by { rolled_prop places.items held },
+    ghost used: { length places.now ≤ MOST_PLACES },
+    ghost sound: { Rolled places.now held } by { Prim.hlevel props },
+}
+
+// The first time of an entry above a time: in order of arrival that is the least one.
+fn first_after(versions: &[Version], entry: u16, time: u32) -> Option<u32>
+    ensures { First entry time versions.now result }
+{
+    versions
+        .iter()
+        .find(|version| version.entry == entry && version.time > time)
+        .map(|version| version.time)
+}
+
+impl<'a> Roll<'a> {
+    ghost use Rattle.std.specs.Prelude.{◌≡◌, ◌<◌, [], ◌∷◌, ◌++◌, take};
+    ghost use Rattle.std.specs.List.{remove};
+    ghost use Rattle.cards.specs.Versions.{Empty, newest_time};
+    ghost use Rattle.keepers.specs.Memory.{used_of};
+    ghost use Rattle.roll.specs.Arrivals.{Proper};
+    ghost use Rattle.roll.specs.Searches.{Placed};
+    ghost use Rattle.roll.specs.View.{roll_memory, roll_front, roll_kept, roll_places};
+
+    /// A keeper of no version, over this memory or its first 65,536 places. Nothing is written to them; any others are not in its hands.
+    pub fn new(memory: &'a mut [Version]) -> Roll<'a>
+        ensures empty { Empty (roll_kept result) }
+        ensures places { roll_places result ≡ used_of (length memory.old) }
+        ensures unwritten { roll_memory result ≡ take (roll_places result) memory.old }
+    {
+        let used = memory.len().min(MOST_PLACES);
+        Roll {
+            places: &mut memory[..used],
+            held: 0,
+        }
+    }
+
+    // The versions that are held.
+    fn front(&self) -> &[Version]
+        ensures { result.now ≡ roll_front self.now }
+    {
+        &self.places[..self.held]
+    }
+
+    // The place of an entry's version at a time.
+    fn place_of(&self, entry: u16, time: u32) -> Option<usize>
+        ensures { Placed entry time (roll_front self.now) result }
+    {
+        let versions = self.front();
+        last_match(versions, entry, time).filter(|at| versions[*at].time == time)
+    }
+
+    // The newest time of an entry, 0 where it has no version: no version has time 0, so one test serves both.
+    fn newest_time(&self, entry: u16) -> u32
+        ensures { result ≡ newest_time (roll_kept self.now) entry }
+    {
+        self.find(entry, u32::MAX).map_or(0, |newest| newest.time)
+    }
+
+    // Puts a version behind the others.
+    fn push(&mut self, version: Version)
+        requires spare { self.old.held < roll_places self.old }
+        requires proper { Proper version }
+        requires late { newest_time (roll_kept self.old) version.entry < version.time }
+        ensures front { roll_front self.new ≡ roll_front self.old ++ version ∷ [] }
+        ensures places { roll_places self.new ≡ roll_places self.old }
+    {
+        let places = &mut *self.places;
+        places[self.held] = version;
+        self.held += 1;
+    }
+
+    // Takes the version at a place out, and moves those behind it one place down.
+    #[tactic(auto, using(crate::proofs::Gaps::rolled_less, crate::proofs::Gaps::front_closed))]
+    fn take_out(&mut self, at: usize)
+        requires { at < self.old.held }
+        ensures front { roll_front self.new ≡ remove (roll_front self.old) at }
+        ensures places { roll_places self.new ≡ roll_places self.old }
+    {
+        let places = &mut *self.places;
+        places.copy_within(at + 1..self.held, at);
+        self.held -= 1;
+    }
+}
+
+impl<'a> Keeper for Roll<'a> {
+    ghost use Rattle.std.specs.Prelude.{refl};
+    ghost use Rattle.std.proofs.Common.{arith};
+    ghost use Rattle.cards.proofs.Holdings.{holding_lawful};
+    ghost use Rattle.keepers.specs.SetOf.{no_version};
+    ghost use Rattle.keepers.proofs.SetsOf.{filled_in, set_of_bounded};
+    ghost use Rattle.roll.specs.View.{roll_front, roll_kept, roll_places, roll_means};
+
+    ghost means = { roll_means };
+
+    ghost bounded = { λ s. set_of_bounded (λ v. v) no_version (roll_front s)
+        (λ p l. let z = s.sound.arrived.each p no_version (filled_in (λ v. v) no_version (roll_front s) p refl l) in (z.0, z.2)) };
+
+    ghost verdicts = { λ s. refl };
+
+    ghost lawful = { λ s. holding_lawful (roll_places s) (roll_kept s) };
+
+    ghost places = { λ s. (roll_places s, refl, omega (arith, s.sound.within, s.sound.counted)) };
+
+    fn held(&self) -> u32 {
+        self.held as u32
+    }
+
+    fn spare(&self) -> u32 {
+        // As in `held`.
+        (self.places.len() - self.held) as u32
+    }
+
+    fn add(&mut self, version: Version) -> Result<(), Refusal> {
+        // Only tested: a roll has nothing for each entry.
+        EntryNumber::try_from(version.entry)?;
+        if self.spare() == 0 {
+            return Err(Refusal::Full);
+        }
+        if version.time <= self.newest_time(version.entry) {
+            return Err(Refusal::Order);
+        }
+        self.push(version);
+        Ok(())
+    }
+
+    fn find(&self, entry: u16, up_to: u32) -> Option<Version> {
+        let versions = self.front();
+        last_match(versions, entry, up_to).map(|at| versions[at])
+    }
+
+    #[tactic(auto, using(crate::proofs::Meanings::next_first))]
+    fn after(&self, entry: u16, time: u32) -> Option<u32> {
+        first_after(self.front(), entry, time)
+    }
+
+    fn remove(&mut self, entry: u16, time: u32) -> bool {
+        let Some(at) = self.place_of(entry, time) else {
+            return false;
+        };
+        self.take_out(at);
+        true
+    }
 }

@@ -1,23 +1,23 @@
 -- The newest version up to a time, and the card after a time.
-use Rattle.std.proofs.Common.{◌≡◌, ℕ, zero, suc, ◌<◌, ◌≤◌, cond, is_some, Some, None, Option, unwrap_or, refl, ap, arith}
+use Rattle.std.proofs.Common.{◌≡◌, ℕ, zero, suc, ◌<◌, ◌≤◌, if◌then◌else◌, is_some, Some, None, Option, unwrap_or, sym, refl, ap, ◌∙◌, arith}
 use Rattle.std.proofs.lemmas.Bool.{cases_eq}
-use Rattle.cards.specs.declared.card.Card.{Card}
+use Rattle.std.proofs.lemmas.Option.{none-some}
 use Rattle.cards.specs.Cards.{blank_card}
-use Rattle.rules.specs.State.{latest}
+use Rattle.cards.specs.declared.card.Card.{Card}
 use Rattle.rules.specs.Account.{card_after}
-use Rattle.cards.proofs.Somes.{some≢none}
+use Rattle.rules.specs.State.{latest}
 use Rattle.rules.proofs.Options.{same_option}
 
 -- a within b, and b's newest in a: the same newest
 pub same_latest : (a b : ℕ → Option Card) (T : ℕ) → ((t : ℕ) (c : Card) → a t ≡ Some c → b t ≡ Some c) →
     ((t : ℕ) (c : Card) → t ≤ T → b t ≡ Some c → ((u : ℕ) → t < u → u ≤ T → b u ≡ None) → a t ≡ Some c) → latest a T ≡ latest b T
-same_latest a b zero sub top = same_option (a 0) (b 0) (sub 0) (λ c q. some≢none (a 0) c (top 0 c (omega arith) q (λ u l m. absurd (omega arith))))
+same_latest a b zero sub top = same_option (a 0) (b 0) (sub 0) (λ c q n. none-some c (sym n ∙ top 0 c (omega arith) q (λ u l m. absurd (omega arith))))
 same_latest a b (suc T) sub top =
-    rw (same_option (a (suc T)) (b (suc T)) (sub (suc T)) (λ c q. some≢none (a (suc T)) c (top (suc T) c (omega arith) q (λ u l m. absurd (omega arith)))))
+    rw (same_option (a (suc T)) (b (suc T)) (sub (suc T)) (λ c q n. none-some c (sym n ∙ top (suc T) c (omega arith) q (λ u l m. absurd (omega arith)))))
     (go (b (suc T)) refl (λ f. same_latest a b T sub f))
   where
     go : (x : Option Card) → b (suc T) ≡ x → (((t : ℕ) (c : Card) → t ≤ T → b t ≡ Some c → ((u : ℕ) → t < u → u ≤ T → b u ≡ None) → a t ≡ Some c) → latest a T ≡ latest b T) →
-        cond (is_some x) x (latest a T) ≡ cond (is_some x) x (latest b T)
+        (if is_some x then x else latest a T) ≡ (if is_some x then x else latest b T)
     go (Some c) q h = refl
     go None q h = h (λ t c l e f. top t c (omega arith) e (λ u v w. let x = f u v in grind arith))
 

@@ -1,14 +1,14 @@
--- The account: a plain machine, fed each call with its arguments, whether it was granted, and a proof's answer.
-use Rattle.std.specs.Prelude.{ℕ, zero, suc, Bool, true, false, cond, List, [], ◌∷◌, Some, None, Ok, Err, Option, Result, ◌==◌}
+-- The account: a plain machine that is told which call was made, if it was granted, and the start that a proof answered.
+use Rattle.std.specs.Prelude.{ℕ, zero, suc, Bool, true, false, List, [], ◌∷◌, is_ok, Some, None, Ok, Option, Result, ◌==◌, if◌then◌else◌}
 use Rattle.std.specs.Option.{unwrap_or}
+use Rattle.cards.specs.Cards.{blank_card}
 use Rattle.cards.specs.declared.card.Card.{Card}
 use Rattle.cards.specs.declared.refusal.Refusal.{Refusal}
-use Rattle.rules.specs.declared.call.Call.{Call}
-use Rattle.rules.specs.declared.call.Call.TheVariants as call
+use Rattle.rules.specs.Runs.{Event}
 use Rattle.rules.specs.declared.answer.Answer.{Answer}
 use Rattle.rules.specs.declared.answer.Answer.TheVariants as answer
-use Rattle.cards.specs.Cards.{blank_card}
-use Rattle.rules.specs.Runs.{Event}
+use Rattle.rules.specs.declared.call.Call.{Call}
+use Rattle.rules.specs.declared.call.Call.TheVariants as call
 
 -- what the account has on a seat: nothing, an open proof with its start, an open edit with its start and drafts, a stamped edit
 -- with its time
@@ -33,73 +33,49 @@ pub record Account : Type 0 where
 abbrev pub empty : Account
 empty = record { last = 0; wrote = λ t n. None; settled = λ t. false; desk = λ k. Free }
 
--- whether a call was granted
-abbrev pub granted : Result Answer Refusal → Bool
-granted (Ok x) = true
-granted (Err r) = false
-
--- the number that it gave
+-- the number that an answer gave
 abbrev pub number : Result Answer Refusal → ℕ
 number (Ok (answer.Number t)) = t
-number (Ok (answer.Card c)) = 0
-number (Ok answer.Done) = 0
-number (Err r) = 0
+number a = 0
 
 -- another desk on the seat k
 abbrev pub at_desk : Account → ℕ → Desk → Account
-at_desk a k d = record { last = a.last; wrote = a.wrote; settled = a.settled; desk = λ j. cond (j == k) d (a.desk j) }
+at_desk a k d = record a { desk = λ j. if j == k then d else a.desk j }
 
--- the card becomes the edit's draft of n, in place of any earlier one
+-- the edit on a desk now drafts the card for n, whatever it drafted for it before
 abbrev pub write_desk : ℕ → Card → Desk → Desk
-write_desk n c Free = Free
-write_desk n c (Reading t) = Reading t
-write_desk n c (Drafting t f) = Drafting t (λ m. cond (m == n) (Some c) (f m))
-write_desk n c (Given t) = Given t
+write_desk n c (Drafting t f) = Drafting t (λ m. if m == n then Some c else f m)
+write_desk n c d = d
 
 -- the edit on the seat k gets the next time
 abbrev pub stamp_desk : Account → ℕ → Desk → Account
-stamp_desk a k Free = a
-stamp_desk a k (Reading t) = a
 stamp_desk a k (Drafting t f) =
-    record {
+    record (at_desk a k (Given (suc a.last))) {
       last = suc a.last;
-      wrote = λ u n. cond (u == suc a.last) (f n) (a.wrote u n);
-      settled = a.settled;
-      desk = λ j. cond (j == k) (Given (suc a.last)) (a.desk j);
+      wrote = λ u n. if u == suc a.last then f n else a.wrote u n;
     }
-stamp_desk a k (Given t) = a
+stamp_desk a k d = a
 
 -- and is marked settled
 abbrev pub settle_desk : Account → ℕ → Desk → Account
-settle_desk a k Free = a
-settle_desk a k (Reading t) = a
-settle_desk a k (Drafting t f) = a
-settle_desk a k (Given t) =
-    record {
-      last = a.last;
-      wrote = a.wrote;
-      settled = λ u. cond (u == t) true (a.settled u);
-      desk = λ j. cond (j == k) Free (a.desk j);
-    }
+settle_desk a k (Given t) = record (at_desk a k Free) { settled = λ u. if u == t then true else a.settled u }
+settle_desk a k d = a
 
--- what a granted call does; t is the number that it gave, of which only a proof's is used
+-- what a granted call does; t is the number that it gave, of which only a proof's is used. Calls that are not named change nothing
 abbrev pub fed : Account → Call → ℕ → Account
 fed a (call.Proof k) t = at_desk a k (Reading t)
 fed a (call.Edit k) t = at_desk a k (Drafting a.last (λ n. None))
-fed a (call.Read k n) t = a
 fed a (call.Write k n c) t = at_desk a k (write_desk n c (a.desk k))
-fed a (call.Lock k) t = a
 fed a (call.Stamp k) t = stamp_desk a k (a.desk k)
-fed a (call.Put k) t = a
 fed a (call.Settle k) t = settle_desk a k (a.desk k)
 fed a (call.Drop k) t = at_desk a k Free
 fed a (call.End k) t = at_desk a k Free
-fed a (call.Collect n) t = a
+fed a c t = a
 
 -- the account of a run, its events newest first; a declined call does nothing
 abbrev pub account : List Event → Account
 account [] = empty
-account (v ∷ h) = cond (granted v.answer) (fed (account h) v.call (number v.answer)) (account h)
+account (v ∷ h) = if is_ok v.answer then fed (account h) v.call (number v.answer) else account h
 
 -- the card of an entry after a time: blank at first, then each stamped edit, singly and in time order, replaces it by its draft
 abbrev pub card_after : (ℕ → ℕ → Option Card) → ℕ → ℕ → Card

@@ -1,8 +1,8 @@
 pub mod Account
 pub mod Law
-pub mod Places
+pub mod NewStore
+pub mod Rows
 pub mod Rules
 pub mod Runs
+pub mod Seat
 pub mod State
-pub mod Words
-pub mod Worked

@@ -1,236 +1,211 @@
--- One rule a call: from a state and the arguments to the next state and the answer; the refusals in the table's order, then the effect.
-use Rattle.std.specs.Prelude.{ℕ, ◌+◌, Bool, cond, ◌||◌, List, [], ◌∷◌, ◌++◌, map, length, drop, slice_set, is_some, Some, None, Ok, Err, Option, Result, nat_le, nat_lt}
+-- One rule a call: from a state, which is the last argument, to the next state with what is given, or why not; the refusals in the order of
+-- their numbers, then the effect. A rule that names a seat goes by the seat's stage, in the definition that ends in _at.
+use Rattle.std.specs.Prelude.{ℕ, ◌+◌, Bool, List, [], ◌∷◌, map, length, drop, slice_set, Some, None, Ok, Err, Option, Result, nat_le, nat_lt, if◌then◌else◌}
 use Rattle.std.specs.Option.{unwrap_or}
+use Rattle.cards.specs.Cards.{blank_card, map_of}
+use Rattle.cards.specs.Holding.{spare_now, refusal_of}
+use Rattle.cards.specs.Kinds.{letter_map, mark_map, pair_map, fits_in}
+use Rattle.cards.specs.Versions.{with_card, without}
 use Rattle.cards.specs.declared.card.Card.{Card}
-use Rattle.rules.specs.declared.stage.Stage.{Stage}
-use Rattle.rules.specs.declared.stage.Stage.TheVariants as stage
+use Rattle.cards.specs.declared.draft.Draft.{Draft}
 use Rattle.cards.specs.declared.refusal.Refusal.{Refusal}
 use Rattle.cards.specs.declared.refusal.Refusal.TheVariants as why
-use Rattle.cards.specs.Versions.{with_card, without}
-use Rattle.cards.specs.Cards.{blank_card, map_of}
-use Rattle.cards.specs.Kinds.{letter_map, mark_map, pair_map, fits_in}
-use Rattle.cards.specs.declared.draft.Draft.{Draft}
-use Rattle.rules.specs.State.{Seat, idle, State, size, seat, row, look, written, has, may_read, may_draft, other, any_held, any_stale, entry_of, taken, released, latest, after, ready, floor, unput_all, with_seat, with_rows, with_clock, with_kept}
-
--- A rule that names a seat goes by the seat's stage, in the definition that ends in _at.
+use Rattle.rules.specs.Rows.{locked_by_other, any_locked_by_other, any_stale, take_locks, release_locks}
+use Rattle.rules.specs.Seat.{Seat, idle, begin, go_on, note, draft_of, draft}
+use Rattle.rules.specs.State.{State, size, seat, row, versions, latest, next_time, ready, floor, unput_all, with_seat, with_rows, with_clock, with_versions}
+use Rattle.rules.specs.declared.limits.TheConstants.{SEATS, LAST_TIME}
+use Rattle.rules.specs.declared.stage.Stage.{Stage}
+use Rattle.rules.specs.declared.stage.Stage.TheVariants as stage
 
 -- ---- what several rules use
 
+-- what a rule gives: the next state and X, or a refusal
+abbrev pub Outcome : Type 0 → Type 0
+Outcome X = Result (State × X) Refusal
+
 -- Seat for a seat above 15
-abbrev pub in_seat : {X : Type 0} → State → ℕ → State × Result X Refusal → State × Result X Refusal
-in_seat s k r = cond (nat_lt k 16) r (s, Err why.Seat)
+abbrev pub in_seat : {X : Type 0} → ℕ → Result X Refusal → Result X Refusal
+in_seat k r = if nat_lt k SEATS then r else Err why.Seat
 
--- a seat in a stage, with empty lists
-abbrev pub staged : Stage → Seat
-staged g = record { stage = g; reads = []; drafts = [] }
+-- Entry for an entry that the store does not have
+abbrev pub in_entry : {X : Type 0} → State → ℕ → Result X Refusal → Result X Refusal
+in_entry s n r = if nat_lt n (size s) then r else Err why.Entry
 
--- a seat in another stage, with the lists that it had
-abbrev pub restaged : Seat → Stage → Seat
-restaged x g = record { stage = g; reads = x.reads; drafts = x.drafts }
+-- the state with the seat that a change of the seat k makes, and what is given then; a refusal of the change is the call's
+abbrev pub at_seat : {X : Type 0} → State → ℕ → Result Seat Refusal → X → Outcome X
+at_seat s k (Ok x) given = Ok (with_seat s k x, given)
+at_seat s k (Err r) given = Err r
 
 -- ---- proof: idle becomes proof, its start the ready point
 
-abbrev pub proof_at : State → ℕ → Stage → State × Result ℕ Refusal
-proof_at s k stage.Idle = (with_seat s k (staged (stage.Proof (ready s))), Ok (ready s))
-proof_at s k (stage.Proof t) = (s, Err why.Stage)
-proof_at s k (stage.Edit t) = (s, Err why.Stage)
-proof_at s k (stage.Locked t) = (s, Err why.Stage)
-proof_at s k (stage.Stamped t p) = (s, Err why.Stage)
+abbrev pub proof_at : ℕ → State → Stage → Outcome ℕ
+proof_at k s stage.Idle = Ok (with_seat s k (begin (stage.Proof (ready s))), ready s)
+proof_at k s g = Err why.Stage
 
-abbrev pub proof : State → ℕ → State × Result ℕ Refusal
-proof s k = in_seat s k (proof_at s k (seat s k).stage)
+abbrev pub proof : ℕ → State → Outcome ℕ
+proof k s = in_seat k (proof_at k s (seat s k).stage)
 
 -- ---- edit: idle becomes edit, its start the clock
 
-abbrev pub edit_at : State → ℕ → Stage → State × Result ℕ Refusal
-edit_at s k stage.Idle = (with_seat s k (staged (stage.Edit s.clock)), Ok s.clock)
-edit_at s k (stage.Proof t) = (s, Err why.Stage)
-edit_at s k (stage.Edit t) = (s, Err why.Stage)
-edit_at s k (stage.Locked t) = (s, Err why.Stage)
-edit_at s k (stage.Stamped t p) = (s, Err why.Stage)
+abbrev pub edit_at : ℕ → State → Stage → Outcome ℕ
+edit_at k s stage.Idle = Ok (with_seat s k (begin (stage.Edit s.clock)), s.clock)
+edit_at k s g = Err why.Stage
 
-abbrev pub edit : State → ℕ → State × Result ℕ Refusal
-edit s k = in_seat s k (edit_at s k (seat s k).stage)
+abbrev pub edit : ℕ → State → Outcome ℕ
+edit k s = in_seat k (edit_at k s (seat s k).stage)
 
 -- ---- read: a proof gets the card of its start; an edit its draft, or the newest card, and then the entry joins its reading list once
 
--- Entry for an entry that the store does not have
-abbrev pub in_entry : {X : Type 0} → State → ℕ → State × Result X Refusal → State × Result X Refusal
-in_entry s n r = cond (nat_lt n (size s)) r (s, Err why.Entry)
-
 -- the card of the newest version up to a time, blank without one
 abbrev pub card_at : State → ℕ → ℕ → Card
-card_at s n t = unwrap_or (latest (s.kept n) t) blank_card
+card_at s n t = unwrap_or (latest (versions s n) t) blank_card
 
 -- the newest card: the card at the row's time
 abbrev pub newest : State → ℕ → Card
 newest s n = card_at s n (row s n).time
 
--- a seat with n on its reading list
-abbrev pub noted : Seat → ℕ → Seat
-noted x n = record { stage = x.stage; reads = x.reads ++ n ∷ []; drafts = x.drafts }
-
 -- what an edit with the start t reads, by its draft there
-abbrev pub read_edit : State → ℕ → ℕ → ℕ → Option Card → State × Result Card Refusal
-read_edit s k n t (Some c) = (s, Ok c)
-read_edit s k n t None =
-    cond (other (row s n).lock k) (s, Err why.Held)
-    (cond (nat_lt t (row s n).time) (s, Err why.Stale)
-    (cond (has (seat s k).reads n) (s, Ok (newest s n))
-    (cond (may_read (seat s k)) (with_seat s k (noted (seat s k) n), Ok (newest s n))
-    (s, Err why.List))))
+abbrev pub read_edit : ℕ → ℕ → ℕ → State → Option Card → Outcome Card
+read_edit k n t s (Some c) = Ok (s, c)
+read_edit k n t s None =
+    if locked_by_other (row s n).lock k then Err why.Held
+    else if nat_lt t (row s n).time then Err why.Stale
+    else at_seat s k (note n (seat s k)) (newest s n)
 
-abbrev pub read_at : State → ℕ → ℕ → Stage → State × Result Card Refusal
-read_at s k n stage.Idle = (s, Err why.Stage)
-read_at s k n (stage.Proof t) = in_entry s n (s, Ok (card_at s n t))
-read_at s k n (stage.Edit t) = in_entry s n (read_edit s k n t (look (seat s k).drafts n))
-read_at s k n (stage.Locked t) = (s, Err why.Stage)
-read_at s k n (stage.Stamped t p) = (s, Err why.Stage)
+abbrev pub read_at : ℕ → ℕ → State → Stage → Outcome Card
+read_at k n s (stage.Proof t) = in_entry s n (Ok (s, card_at s n t))
+read_at k n s (stage.Edit t) = in_entry s n (read_edit k n t s (draft_of (seat s k).drafts n))
+read_at k n s g = Err why.Stage
 
-abbrev pub read : State → ℕ → ℕ → State × Result Card Refusal
-read s k n = in_seat s k (read_at s k n (seat s k).stage)
+abbrev pub read : ℕ → ℕ → State → Outcome Card
+read k n s = in_seat k (read_at k n s (seat s k).stage)
 
 -- ---- write: the card becomes the edit's draft
 
 -- the map of the fields that an entry's kind may bear
 abbrev pub kind_map : State → ℕ → ℕ
-kind_map s n = cond (nat_lt n s.letters) letter_map (cond (nat_lt n (s.letters + s.marks)) mark_map pair_map)
+kind_map s n =
+    if nat_lt n s.sizes.letters then letter_map
+    else if nat_lt n (s.sizes.letters + s.sizes.marks) then mark_map
+    else pair_map
 
 -- the card has no bit that the entry's kind may not bear
 abbrev pub fits : State → ℕ → Card → Bool
 fits s n c = fits_in (kind_map s n) (map_of c)
 
--- a seat with the draft
-abbrev pub drafted : Seat → ℕ → Card → Seat
-drafted x n c = record { stage = x.stage; reads = x.reads; drafts = written x.drafts n c }
+abbrev pub write_at : ℕ → ℕ → Card → State → Stage → Outcome (Unit {0})
+write_at k n c s (stage.Edit t) = in_entry s n (if fits s n c then at_seat s k (draft n c (seat s k)) tt else Err why.Misfit)
+write_at k n c s g = Err why.Stage
 
-abbrev pub write_at : State → ℕ → ℕ → Card → Stage → State × Result (Unit {0}) Refusal
-write_at s k n c stage.Idle = (s, Err why.Stage)
-write_at s k n c (stage.Proof t) = (s, Err why.Stage)
-write_at s k n c (stage.Edit t) =
-    in_entry s n
-    (cond (fits s n c)
-    (cond (is_some (look (seat s k).drafts n) || may_draft (seat s k))
-    (with_seat s k (drafted (seat s k) n c), Ok tt)
-    (s, Err why.List))
-    (s, Err why.Misfit))
-write_at s k n c (stage.Locked t) = (s, Err why.Stage)
-write_at s k n c (stage.Stamped t p) = (s, Err why.Stage)
-
-abbrev pub write : State → ℕ → ℕ → Card → State × Result (Unit {0}) Refusal
-write s k n c = in_seat s k (write_at s k n c (seat s k).stage)
+abbrev pub write : ℕ → ℕ → Card → State → Outcome (Unit {0})
+write k n c s = in_seat k (write_at k n c s (seat s k).stage)
 
 -- ---- lock: all drafted entries are locked
 
-abbrev pub lock_at : State → ℕ → Stage → State × Result ℕ Refusal
-lock_at s k stage.Idle = (s, Err why.Stage)
-lock_at s k (stage.Proof t) = (s, Err why.Stage)
-lock_at s k (stage.Edit t) =
-    cond (any_held s.rows k (map entry_of (seat s k).drafts)) (s, Err why.Held)
-    (with_rows (with_seat s k (restaged (seat s k) (stage.Locked t))) (taken s.rows k (seat s k).drafts), Ok (length (seat s k).drafts))
-lock_at s k (stage.Locked t) = (s, Err why.Stage)
-lock_at s k (stage.Stamped t p) = (s, Err why.Stage)
+-- the entry of a draft
+abbrev pub entry_of : Draft → ℕ
+entry_of d = d.entry
 
-abbrev pub lock : State → ℕ → State × Result ℕ Refusal
-lock s k = in_seat s k (lock_at s k (seat s k).stage)
+abbrev pub lock_at : ℕ → State → Stage → Outcome ℕ
+lock_at k s (stage.Edit t) =
+    if any_locked_by_other s.rows k (map entry_of (seat s k).drafts) then Err why.Held
+    else Ok (
+      with_rows (with_seat s k (go_on (stage.Locked t) (seat s k))) (take_locks s.rows k (seat s k).drafts),
+      length (seat s k).drafts,
+    )
+lock_at k s g = Err why.Stage
+
+abbrev pub lock : ℕ → State → Outcome ℕ
+lock k s = in_seat k (lock_at k s (seat s k).stage)
 
 -- ---- stamp: the reads are checked and the next time is taken, in one call
 
-abbrev pub stamp_at : State → ℕ → Stage → State × Result ℕ Refusal
-stamp_at s k stage.Idle = (s, Err why.Stage)
-stamp_at s k (stage.Proof t) = (s, Err why.Stage)
-stamp_at s k (stage.Edit t) = (s, Err why.Stage)
-stamp_at s k (stage.Locked t) =
-    cond (any_held s.rows k (seat s k).reads) (s, Err why.Held)
-    (cond (any_stale s.rows t (seat s k).reads) (s, Err why.Stale)
-    (cond (nat_lt (s.room s.kept) (unput_all s.seats + length (seat s k).drafts)) (s, Err why.Places)
-    (cond (nat_le 1000000 s.clock) (s, Err why.Clock)
-    (with_clock (with_seat s k (restaged (seat s k) (stage.Stamped (s.clock + 1) 0))) (s.clock + 1), Ok (s.clock + 1)))))
-stamp_at s k (stage.Stamped t p) = (s, Err why.Stage)
+-- too few places are spare for the drafts that are not put yet and this seat's own
+abbrev pub lacks_places : ℕ → State → Bool
+lacks_places k s = nat_lt (spare_now s.holding) (unput_all s.seats + length (seat s k).drafts)
 
-abbrev pub stamp : State → ℕ → State × Result ℕ Refusal
-stamp s k = in_seat s k (stamp_at s k (seat s k).stage)
+abbrev pub stamp_at : ℕ → State → Stage → Outcome ℕ
+stamp_at k s (stage.Locked t) =
+    if any_locked_by_other s.rows k (seat s k).reads then Err why.Held
+    else if any_stale s.rows t (seat s k).reads then Err why.Stale
+    else if lacks_places k s then Err why.Places
+    else if nat_le LAST_TIME s.clock then Err why.Clock
+    else Ok (with_clock (with_seat s k (go_on (stage.Stamped (s.clock + 1) 0) (seat s k))) (s.clock + 1), s.clock + 1)
+stamp_at k s g = Err why.Stage
 
--- ---- put: the next draft goes to the keeper with the edit's time; the row takes that time and is unlocked
+abbrev pub stamp : ℕ → State → Outcome ℕ
+stamp k s = in_seat k (stamp_at k s (seat s k).stage)
 
--- r is what the keeper says of it
-abbrev pub put_draft : State → ℕ → ℕ → ℕ → Draft → Option Refusal → State × Result ℕ Refusal
-put_draft s k t p d (Some r) = (s, Err r)
-put_draft s k t p d None = (
-  with_kept (with_rows (with_seat s k (restaged (seat s k) (stage.Stamped t (p + 1)))) (slice_set s.rows d.entry (record { time = t; lock = None })))
-      (with_card s.kept d.entry t d.card),
-  Ok (length (drop (p + 1) (seat s k).drafts)),
+-- ---- put: the keeper takes the next draft, at the edit's time; the entry's row has that time from now on, and no lock
+
+-- the draft d, the next after p others, with the edit's time t, by why the keeper refuses it, if it does
+abbrev pub put_draft : ℕ → ℕ → ℕ → Draft → State → Option Refusal → Outcome ℕ
+put_draft k t p d s (Some r) = Err r
+put_draft k t p d s None = Ok (
+  with_versions
+      (with_rows (with_seat s k (go_on (stage.Stamped t (p + 1)) (seat s k))) (slice_set s.rows d.entry (record { time = t; lock = None })))
+      (with_card s.holding.kept d.entry t d.card),
+  length (drop (p + 1) (seat s k).drafts),
 )
 
 -- by the drafts that are left
-abbrev pub put_next : State → ℕ → ℕ → ℕ → List Draft → State × Result ℕ Refusal
-put_next s k t p [] = (s, Err why.Stage)
-put_next s k t p (d ∷ ds) = put_draft s k t p d (s.says s.kept d.entry t)
+abbrev pub put_next : ℕ → ℕ → ℕ → State → List Draft → Outcome ℕ
+put_next k t p s [] = Err why.Stage
+put_next k t p s (d ∷ ds) = put_draft k t p d s (refusal_of s.holding d.entry t)
 
-abbrev pub put_at : State → ℕ → Stage → State × Result ℕ Refusal
-put_at s k stage.Idle = (s, Err why.Stage)
-put_at s k (stage.Proof t) = (s, Err why.Stage)
-put_at s k (stage.Edit t) = (s, Err why.Stage)
-put_at s k (stage.Locked t) = (s, Err why.Stage)
-put_at s k (stage.Stamped t p) = put_next s k t p (drop p (seat s k).drafts)
+abbrev pub put_at : ℕ → State → Stage → Outcome ℕ
+put_at k s (stage.Stamped t p) = put_next k t p s (drop p (seat s k).drafts)
+put_at k s g = Err why.Stage
 
-abbrev pub put : State → ℕ → State × Result ℕ Refusal
-put s k = in_seat s k (put_at s k (seat s k).stage)
+abbrev pub put : ℕ → State → Outcome ℕ
+put k s = in_seat k (put_at k s (seat s k).stage)
 
 -- ---- settle: stamped becomes idle
 
-abbrev pub settle_at : State → ℕ → Stage → State × Result ℕ Refusal
-settle_at s k stage.Idle = (s, Err why.Stage)
-settle_at s k (stage.Proof t) = (s, Err why.Stage)
-settle_at s k (stage.Edit t) = (s, Err why.Stage)
-settle_at s k (stage.Locked t) = (s, Err why.Stage)
-settle_at s k (stage.Stamped t p) =
-    cond (nat_lt p (length (seat s k).drafts)) (s, Err why.Unput)
-    (cond (nat_lt (ready s) t) (s, Err why.Waiting)
-    (with_seat s k idle, Ok t))
+abbrev pub settle_at : ℕ → State → Stage → Outcome ℕ
+settle_at k s (stage.Stamped t p) =
+    if nat_lt p (length (seat s k).drafts) then Err why.Unput
+    else if nat_lt (ready s) t then Err why.Waiting
+    else Ok (with_seat s k idle, t)
+settle_at k s g = Err why.Stage
 
-abbrev pub settle : State → ℕ → State × Result ℕ Refusal
-settle s k = in_seat s k (settle_at s k (seat s k).stage)
+abbrev pub settle : ℕ → State → Outcome ℕ
+settle k s = in_seat k (settle_at k s (seat s k).stage)
 
--- ---- drop: edit or locked becomes idle, and its locks are released
+-- ---- drop: a seat in edit, or locked, becomes idle and lets its locks go
 
 -- whichever of the two stages it was in
-abbrev pub dropped : State → ℕ → State × Result (Unit {0}) Refusal
-dropped s k = (with_rows (with_seat s k idle) (released s.rows k (seat s k).drafts), Ok tt)
+abbrev pub dropped : ℕ → State → Outcome (Unit {0})
+dropped k s = Ok (with_rows (with_seat s k idle) (release_locks s.rows k (seat s k).drafts), tt)
 
-abbrev pub drop_at : State → ℕ → Stage → State × Result (Unit {0}) Refusal
-drop_at s k stage.Idle = (s, Err why.Stage)
-drop_at s k (stage.Proof t) = (s, Err why.Stage)
-drop_at s k (stage.Edit t) = dropped s k
-drop_at s k (stage.Locked t) = dropped s k
-drop_at s k (stage.Stamped t p) = (s, Err why.Stage)
+abbrev pub drop_at : ℕ → State → Stage → Outcome (Unit {0})
+drop_at k s (stage.Edit t) = dropped k s
+drop_at k s (stage.Locked t) = dropped k s
+drop_at k s g = Err why.Stage
 
-abbrev pub dropping : State → ℕ → State × Result (Unit {0}) Refusal
-dropping s k = in_seat s k (drop_at s k (seat s k).stage)
+abbrev pub drop_edit : ℕ → State → Outcome (Unit {0})
+drop_edit k s = in_seat k (drop_at k s (seat s k).stage)
 
 -- ---- end: proof becomes idle
 
-abbrev pub end_at : State → ℕ → Stage → State × Result (Unit {0}) Refusal
-end_at s k stage.Idle = (s, Err why.Stage)
-end_at s k (stage.Proof t) = (with_seat s k idle, Ok tt)
-end_at s k (stage.Edit t) = (s, Err why.Stage)
-end_at s k (stage.Locked t) = (s, Err why.Stage)
-end_at s k (stage.Stamped t p) = (s, Err why.Stage)
+abbrev pub end_at : ℕ → State → Stage → Outcome (Unit {0})
+end_at k s (stage.Proof t) = Ok (with_seat s k idle, tt)
+end_at k s g = Err why.Stage
 
-abbrev pub ending : State → ℕ → State × Result (Unit {0}) Refusal
-ending s k = in_seat s k (end_at s k (seat s k).stage)
+abbrev pub end : ℕ → State → Outcome (Unit {0})
+end k s = in_seat k (end_at k s (seat s k).stage)
 
--- ---- collect: the oldest version of the entry goes, if its follower's time is up to the floor
+-- ---- collect: the entry's oldest version goes, if the one after it has a time that is not above the floor
 
 -- by the follower, up to the floor, of the oldest version, whose time is t
-abbrev pub collect_next : State → ℕ → ℕ → Option ℕ → State × Result ℕ Refusal
-collect_next s n t None = (s, Err why.Needed)
-collect_next s n t (Some f) = (with_kept s (without s.kept n t), Ok t)
+abbrev pub collect_next : ℕ → ℕ → State → Option ℕ → Outcome ℕ
+collect_next n t s None = Err why.Needed
+collect_next n t s (Some f) = Ok (with_versions s (without s.holding.kept n t), t)
 
 -- by the time of the oldest version, up to the floor
-abbrev pub collect_oldest : State → ℕ → Option ℕ → State × Result ℕ Refusal
-collect_oldest s n None = (s, Err why.Needed)
-collect_oldest s n (Some t) = collect_next s n t (after (s.kept n) t (floor s))
+abbrev pub collect_oldest : ℕ → State → Option ℕ → Outcome ℕ
+collect_oldest n s None = Err why.Needed
+collect_oldest n s (Some t) = collect_next n t s (next_time (versions s n) t (floor s))
 
-abbrev pub collect : State → ℕ → State × Result ℕ Refusal
-collect s n = in_entry s n (collect_oldest s n (after (s.kept n) 0 (floor s)))
+abbrev pub collect : ℕ → State → Outcome ℕ
+collect n s = in_entry s n (collect_oldest n s (next_time (versions s n) 0 (floor s)))

@@ -1,35 +1,45 @@
 -- One step by a call, the runs that calls make, and which events lead to which state.
-use Rattle.std.specs.Prelude.{List, [], ◌∷◌, Result}
-use Rattle.std.specs.Result.{result_map_both}
+use Rattle.std.specs.Prelude.{List, [], ◌∷◌, Ok, Err, Result}
 use Rattle.cards.specs.declared.refusal.Refusal.{Refusal}
-use Rattle.rules.specs.declared.call.Call.{Call}
-use Rattle.rules.specs.declared.call.Call.TheVariants as call
+use Rattle.rules.specs.NewStore.{Fresh}
+use Rattle.rules.specs.Rules.{Outcome, proof, edit, read, write, lock, stamp, put, settle, drop_edit, end, collect}
+use Rattle.rules.specs.State.{State}
 use Rattle.rules.specs.declared.answer.Answer.{Answer}
 use Rattle.rules.specs.declared.answer.Answer.TheVariants as answer
-use Rattle.rules.specs.State.{State, Fresh}
-use Rattle.rules.specs.Rules.{proof, edit, read, write, lock, stamp, put, settle, dropping, ending, collect}
+use Rattle.rules.specs.declared.call.Call.{Call}
+use Rattle.rules.specs.declared.call.Call.TheVariants as call
 
--- a rule's state and outcome: what it gives as an answer, or its refusal
-abbrev pub told : {X : Type 0} → (X → Answer) → State × Result X Refusal → State × Result Answer Refusal
-told f p = (p.0, result_map_both f (λ r. r) p.1)
+-- what a rule gives, as an answer
+abbrev pub answering : {X : Type 0} → (X → Answer) → Outcome X → Outcome Answer
+answering f (Ok (s, x)) = Ok (s, f x)
+answering f (Err r) = Err r
 
 -- granted, with nothing more to tell
 abbrev pub done : Unit {0} → Answer
 done x = answer.Done
 
+-- the rule of a call
+abbrev pub rule_of : Call → State → Outcome Answer
+rule_of (call.Proof k) s = answering answer.Number (proof k s)
+rule_of (call.Edit k) s = answering answer.Number (edit k s)
+rule_of (call.Read k n) s = answering answer.Card (read k n s)
+rule_of (call.Write k n c) s = answering done (write k n c s)
+rule_of (call.Lock k) s = answering answer.Number (lock k s)
+rule_of (call.Stamp k) s = answering answer.Number (stamp k s)
+rule_of (call.Put k) s = answering answer.Number (put k s)
+rule_of (call.Settle k) s = answering answer.Number (settle k s)
+rule_of (call.Drop k) s = answering done (drop_edit k s)
+rule_of (call.End k) s = answering done (end k s)
+rule_of (call.Collect n) s = answering answer.Number (collect n s)
+
+-- the state and the answer after a rule: granted, those that it gives; declined, the state as it was and the refusal
+abbrev pub stepped : {X : Type 0} → State → Outcome X → State × Result X Refusal
+stepped s (Ok (t, a)) = (t, Ok a)
+stepped s (Err r) = (s, Err r)
+
 -- one call, by its rule
 abbrev pub step : State → Call → State × Result Answer Refusal
-step s (call.Proof k) = told answer.Number (proof s k)
-step s (call.Edit k) = told answer.Number (edit s k)
-step s (call.Read k n) = told answer.Card (read s k n)
-step s (call.Write k n c) = told done (write s k n c)
-step s (call.Lock k) = told answer.Number (lock s k)
-step s (call.Stamp k) = told answer.Number (stamp s k)
-step s (call.Put k) = told answer.Number (put s k)
-step s (call.Settle k) = told answer.Number (settle s k)
-step s (call.Drop k) = told done (dropping s k)
-step s (call.End k) = told done (ending s k)
-step s (call.Collect n) = told answer.Number (collect s n)
+step s c = stepped s (rule_of c s)
 
 -- a call with its answer
 pub record Event : Type 0 where
@@ -57,6 +67,5 @@ play s (c ∷ cs) = play (step s c).0 cs
 
 -- the events h, and then the calls with their answers
 abbrev pub events : List Event → List Call → List (Result Answer Refusal) → List Event
-events h [] rs = h
-events h (c ∷ cs) [] = h
-events h (c ∷ cs) (a ∷ rs) = events (record { call = c; answer = a } ∷ h) cs rs
+events h (c ∷ cs) (a ∷ rs) = events (event c a ∷ h) cs rs
+events h cs rs = h

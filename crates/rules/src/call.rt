@@ -1,53 +1,29 @@
-// What a store is asked.
-ghost use Rattle.std.specs.Prelude.{◌≡◌};
-ghost use Rattle.rules.specs.Words.{call_number};
-
+//! What a store is asked.
 use cards::card::Card;
 
-// The eleven calls with their arguments. Seat and entry numbers are taken as they come, and judged by the rules.
+/// The calls with their arguments. Seat and entry numbers are taken as they come, and judged by the rules.
 #[derive(Clone, Copy, PartialEq, Eq, Debug)]
 pub enum Call {
-    // Opens a proof.
+    /// Opens a proof.
     Proof { seat: u16 },
-    // Opens an edit.
+    /// Opens an edit.
     Edit { seat: u16 },
-    // Reads an entry's card.
+    /// Reads an entry's card.
     Read { seat: u16, entry: u16 },
-    // Drafts a card for an entry.
+    /// Drafts a card for an entry.
     Write { seat: u16, entry: u16, card: Card },
-    // Locks the drafted entries.
+    /// Locks the drafted entries.
     Lock { seat: u16 },
-    // Takes the next time.
+    /// Takes the next time.
     Stamp { seat: u16 },
-    // Hands the next draft to the keeper.
+    /// Hands the next draft to the keeper.
     Put { seat: u16 },
-    // Closes a stamped edit.
+    /// Closes a stamped edit.
     Settle { seat: u16 },
-    // Gives an edit up.
+    /// Gives an edit up.
     Drop { seat: u16 },
-    // Closes a proof.
+    /// Closes a proof.
     End { seat: u16 },
-    // Removes an entry's oldest version that no proof can need.
+    /// Removes an entry's oldest version that no proof can need.
     Collect { entry: u16 },
-}
-
-impl Call {
-    // Its place among the eleven, from 1. No `From`: a call is more than its number. Cases with fields have no numbers of their own.
-    pub fn number(self) -> u8
-        ensures { result ≡ call_number self }
-    {
-        match self {
-            Call::Proof { .. } => 1,
-            Call::Edit { .. } => 2,
-            Call::Read { .. } => 3,
-            Call::Write { .. } => 4,
-            Call::Lock { .. } => 5,
-            Call::Stamp { .. } => 6,
-            Call::Put { .. } => 7,
-            Call::Settle { .. } => 8,
-            Call::Drop { .. } => 9,
-            Call::End { .. } => 10,
-            Call::Collect { .. } => 11,
-        }
-    }
 }

@@ -1,20 +1,14 @@
-// The theorems of the rules, each carried by a function that has nothing to compute.
+//! The theorems of the rules, each carried by a function that has nothing to compute.
 ghost use Rattle.rules.specs.Law.{LawHolds, LawOfLists};
-ghost use Rattle.rules.specs.Places.{NewStoresStand};
-ghost use Rattle.rules.specs.Worked.{WorkedCasesHold};
+ghost use Rattle.rules.specs.NewStore.{NewStoresStand};
 
-// The law holds of every run from a new store over an empty keeper: of every state that is reached, and of every list of calls.
+/// The law holds of every run from a new store over an empty keeper: of every state that is reached, and of every list of calls.
 pub fn law_holds()
     ensures reached { LawHolds }
     ensures lists { LawOfLists }
 {}
 
-// There are such stores: places less held is a room as the law wants it.
+/// There are such stores: whatever its sizes, a new store over an empty keeper stands as the law wants it.
 pub fn new_stores_stand()
     ensures { NewStoresStand }
-{}
-
-// The worked cases hold, as one statement over their list.
-pub fn worked_cases_hold()
-    ensures { WorkedCasesHold }
 {}

@@ -2,7 +2,8 @@
 use Rattle.std.specs.Prelude.{ℕ, Ok, Err, Result}
 use Rattle.cards.specs.declared.refusal.Refusal.{Refusal}
 use Rattle.cards.specs.declared.refusal.Refusal.TheVariants as why
-use Rattle.rules.specs.Rules.{lock, stamp, put, settle}
+use Rattle.rules.specs.Rules.{Outcome, lock, stamp, put, settle}
+use Rattle.rules.specs.Runs.{stepped}
 use Rattle.rules.specs.State.{State, seat}
 use Rattle.saving.specs.declared.unsaved.Unsaved.{Unsaved}
 use Rattle.saving.specs.declared.unsaved.Unsaved.TheVariants as left
@@ -18,17 +19,21 @@ abbrev pub then : {X Y : Type 0} → State × Result X Refusal → (State → St
 then (s, Ok x) f = f s
 then (s, Err r) f = (s, Err r)
 
+-- settle
+abbrev pub settled : ℕ → State → State × Result ℕ Refusal
+settled k s = stepped s (settle k s)
+
 -- put, then settle
-unfoldable pub put_settled : State → ℕ → State × Result ℕ Refusal
-put_settled s k = then (put s k) (λ t. settle t k)
+unfoldable pub put_settled : ℕ → State → State × Result ℕ Refusal
+put_settled k s = then (stepped s (put k s)) (settled k)
 
 -- stamp, then those two
-unfoldable pub stamp_settled : State → ℕ → State × Result ℕ Refusal
-stamp_settled s k = then (stamp s k) (λ t. put_settled t k)
+unfoldable pub stamp_settled : ℕ → State → State × Result ℕ Refusal
+stamp_settled k s = then (stepped s (stamp k s)) (put_settled k)
 
 -- lock, then those three
-unfoldable pub saved : State → ℕ → State × Result ℕ Refusal
-saved s k = then (lock s k) (λ t. stamp_settled t k)
+unfoldable pub saved : ℕ → State → State × Result ℕ Refusal
+saved k s = then (stepped s (lock k s)) (stamp_settled k)
 
 -- what is left of an open edit whose call is declined: the ticket, with why, or nothing
 abbrev pub left_open : Declined EditTicket → Unsaved
@@ -71,17 +76,22 @@ ended l (Err d) = Err (l d)
 
 -- settle
 abbrev pub settle_or_left : State → StampedTicket → Result ℕ Unsaved
-settle_or_left s t = ended left_stamped (closed t (settle s (named t)).1)
+settle_or_left s t = ended left_stamped (closed t (settled (named t) s).1)
 
 -- put, then settle
 unfoldable pub put_or_left : State → StampedTicket → Result ℕ Unsaved
 put_or_left s t =
-    onward left_stamped (put_passed t (is_stamped (seat s (named t)).stage) (put s (named t)).1) (settle_or_left (put s (named t)).0)
+    let p = stepped s (put (named t) s) in
+    onward left_stamped (put_passed t (is_stamped (seat s (named t)).stage) p.1) (settle_or_left p.0)
 
 -- stamp, then those two
 unfoldable pub stamp_or_left : State → LockedTicket → Result ℕ Unsaved
-stamp_or_left s t = onward left_locked (passed t (stamped_ticket t.seat) (stamp s t.seat).1) (put_or_left (stamp s t.seat).0)
+stamp_or_left s t =
+    let p = stepped s (stamp t.seat s) in
+    onward left_locked (passed t (stamped_ticket t.seat) p.1) (put_or_left p.0)
 
 -- lock, then those three
 unfoldable pub save_or_left : State → EditTicket → Result ℕ Unsaved
-save_or_left s t = onward left_open (passed t (locked_ticket t.seat) (lock s t.seat).1) (stamp_or_left (lock s t.seat).0)
+save_or_left s t =
+    let p = stepped s (lock t.seat s) in
+    onward left_open (passed t (locked_ticket t.seat) p.1) (stamp_or_left p.0)

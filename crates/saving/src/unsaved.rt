@@ -1,4 +1,4 @@
-// What is left of an edit that could not be saved.
+//! What is left of an edit that could not be saved.
 ghost use Rattle.std.specs.Prelude.{◌≡◌};
 ghost use Rattle.saving.specs.Saved.{left_open, left_locked, left_stamped};
 
@@ -8,8 +8,8 @@ use tickets::edit::EditTicket;
 use tickets::locked::LockedTicket;
 use tickets::stamped::StampedTicket;
 
-// The ticket of the stage that it came to, unless that was taken in. It cannot be let go unread, since the ticket may be a stamped
-// one: its holder puts what is left and settles, and where it is told Waiting, tries again later.
+/// The ticket of the stage that the edit came to, with why the next call was declined, unless the ticket was taken in. It cannot be let go
+/// unread, since the ticket may be a stamped one: its holder puts what is left and settles, and where it is told `Waiting`, tries again later.
 pub enum Unsaved {
     Gone,
     Open { why: Refusal, ticket: EditTicket },

@@ -1,34 +1,19 @@
 -- A line that is read to a call is the line that is written for it, so that each call has one line.
-use Rattle.std.proofs.Common.{◌≡◌, ℕ, ◌+◌, ◌*◌, ◌/◌, ◌%◌, ◌<◌, ◌≤◌, Bool, true, false, cond, ◌==◌, List, [], ◌∷◌, ◌++◌, length, drop, ℤ, is_some, nat_lt, IfOk, Option, None, Some, Result, Ok, Err, ok_or, decimal, refl, sym, ap, ◌∙◌, subst, append-nil, arith}
+use Rattle.std.proofs.Common.{◌≡◌, ℕ, ◌≤◌, Bool, true, false, cond, ◌==◌, List, [], ◌∷◌, ◌++◌, length, drop, ℤ, is_some, nat_lt, IfOk, Option, None, Some, Result, Ok, Err, ok_or, decimal, refl, sym, ap, ◌∙◌, subst, append-nil}
 use Rattle.std.specs.Fmt.{signed_decimal}
-use Rattle.std.specs.List.{join_with_byte}
-use Rattle.std.proofs.lemmas.Bool.{cond_both, eqb-true, eqb-false}
-use Rattle.std.proofs.lemmas.List.Splits.{join_with_byte-slice_split, length-slice_split}
-use Rattle.cards.specs.Cards.{bit, map_of}
+use Rattle.std.proofs.lemmas.Bool.{cond_both, eqb-true}
+use Rattle.std.proofs.lemmas.Option.{none-some, cond_some}
 use Rattle.cards.specs.declared.card.Card.{Card}
 use Rattle.rules.specs.declared.call.Call.{Call}
 use Rattle.rules.specs.declared.call.Call.TheVariants as call
-use Rattle.scripts.specs.Words.{is_space, words, letter}
-use Rattle.scripts.specs.Numbers.{field}
-use Rattle.scripts.specs.Lines.{Left, fit, next, end_of, end, seat_or_entry, bit_map, alone, read_of, fit_if, next_if, bit_of, card_of, write_of, call_of, all_of, read_words, read, ◌>>=◌}
+use Rattle.scripts.specs.Words.{is_letter, letter, number, field}
+use Rattle.scripts.specs.Lines.{Left, fit, next, end_of, end, seat_or_entry, alone, read_of, fit_if, next_if, bit_of, card_of, write_of, call_of, all_of, read_words, read, ◌>>=◌}
 use Rattle.scripts.specs.Texts.{spaced, spaced_field, card_text, call_text}
-use Rattle.scripts.proofs.CardBack.{at, map_sum}
-use Rattle.scripts.proofs.OneWord.{number_once, field_once, letter_once}
-
--- ---- the words of a line, joined again
-
--- words, each with a space before it
-abbrev spaced_words : List (List ℕ) → List ℕ
-spaced_words [] = []
-spaced_words (w ∷ ws) = 32 ∷ (w ++ spaced_words ws)
-
-spaced_join : (ws : List (List ℕ)) → 0 < length ws → spaced_words ws ≡ 32 ∷ join_with_byte 32 ws
-spaced_join [] l = absurd (omega arith)
-spaced_join (w ∷ []) l = ap (λ t. 32 ∷ t) (append-nil w)
-spaced_join (w ∷ v ∷ ws) l = ap (λ t. 32 ∷ (w ++ t)) (spaced_join (v ∷ ws) (omega arith))
-
-spaced_line : (line : List ℕ) → spaced_words (words line) ≡ 32 ∷ line
-spaced_line line = spaced_join (words line) (omega (arith, length-slice_split is_space line)) ∙ ap (λ t. 32 ∷ t) (join_with_byte-slice_split 32 line)
+use Rattle.scripts.specs.declared.reader.TheConstants.{MOST_LINE, MOST_NUMBER, MOST_MAP}
+use Rattle.scripts.proofs.Back.{at}
+use Rattle.scripts.proofs.Bits.{map_from_told}
+use Rattle.scripts.proofs.Numbers.{number_once, field_once}
+use Rattle.scripts.proofs.Spaced.{spaced_words, spaced_line}
 
 -- ---- one step
 
@@ -64,7 +49,7 @@ none_once (w ∷ ws) place u e = cc
 -- ---- numbers
 
 seat_or_entry_once : (l : Left) (n : ℕ) → fit seat_or_entry l ≡ Ok n → rest l ≡ spaced n ++ rest (next l)
-seat_or_entry_once l n e = word_once seat_or_entry decimal (λ w m is. (number_once 65535 w m (omega arith) is).0) l n e
+seat_or_entry_once l n e = word_once seat_or_entry decimal (λ w m is. (number_once MOST_NUMBER w m is).0) l n e
 
 alone_once : (l : Left) (n : ℕ) → alone l ≡ Ok n → rest l ≡ spaced n
 unfolding alone
@@ -95,14 +80,6 @@ field_passed false l o e = subst (Passed false l) (same_Ok None o e) (refl, refl
 field_steps : {A : Type 0} (present : Bool) (l : Left) (f : Option ℤ → Result A ℕ) (y : A) → (fit_if present l >>= f) ≡ Ok y → (o : Option ℤ) × Passed present l o × (f o ≡ Ok y)
 field_steps present l f y e = let o = steps (fit_if present l) f y e in (o.0, field_passed present l o.0 o.1, o.2)
 
-bit_told : (o : Option ℤ) (map worth : ℕ) → bit_of map worth ≡ is_some o → bit o 1 ≡ map / worth % 2
-bit_told None map worth e = omega (arith, eqb-false (map / worth % 2) 1 e)
-bit_told (Some z) map worth e = sym (eqb-true (map / worth % 2) 1 e)
-
--- a map of six bits is what they add up to
-six_bits : (map : ℕ) → map ≤ 63 → map ≡ map / 1 % 2 + 2 * (map / 2 % 2) + 4 * (map / 4 % 2) + 8 * (map / 8 % 2) + 16 * (map / 16 % 2) + 32 * (map / 32 % 2)
-six_bits map small = omega arith
-
 card_once : (map : ℕ) (l : Left) (c : Card) → map ≤ 63 → card_of map l ≡ Ok c → spaced map ++ rest l ≡ card_text c
 unfolding card_of
 card_once map l c small e =
@@ -120,15 +97,15 @@ card_once map l c small e =
     let kern = field_steps (bit_of map 32) l₅ _ c mark_class.2 in
     let none = steps (end l₆) _ c kern.2 in
     let made : Card = record { advance = advance.0; left_bearing = left_bearing.0; anchor_across = anchor_across.0; anchor_up = anchor_up.0; mark_class = mark_class.0; kern = kern.0 } in
-    let sum : map ≡ map_of made = omega (arith, six_bits map small, map_sum made, bit_told advance.0 map 1 advance.1.0, bit_told left_bearing.0 map 2 left_bearing.1.0, bit_told anchor_across.0 map 4 anchor_across.1.0, bit_told anchor_up.0 map 8 anchor_up.1.0, bit_told mark_class.0 map 16 mark_class.1.0, bit_told kern.0 map 32 kern.1.0) in
+    let sum = map_from_told map made small advance.1.0 left_bearing.1.0 anchor_across.1.0 anchor_up.1.0 mark_class.1.0 kern.1.0 in
     let text : spaced map ++ rest l ≡ card_text made =
-    rw (sym sum, advance.1.1, left_bearing.1.1, anchor_across.1.1, anchor_up.1.1, mark_class.1.1, kern.1.1, none_once l₆.words l₆.place none.0 none.1, append-nil (spaced_field kern.0)) in
+    rw (sum, advance.1.1, left_bearing.1.1, anchor_across.1.1, anchor_up.1.1, mark_class.1.1, kern.1.1, none_once l₆.words l₆.place none.0 none.1) in
     text ∙ ap card_text (same_Ok made c none.2)
 
-map_once : (l : Left) (map : ℕ) → fit bit_map l ≡ Ok map → (rest l ≡ spaced map ++ rest (next l)) × (map ≤ 63)
+map_once : (l : Left) (map : ℕ) → fit (number MOST_MAP) l ≡ Ok map → (rest l ≡ spaced map ++ rest (next l)) × (map ≤ MOST_MAP)
 map_once l map e =
-    let w = word_fitted bit_map l.words l.place map e in
-    (word_once bit_map decimal (λ v m is. (number_once 63 v m (omega arith) is).0) l map e, (number_once 63 w.0 map (omega arith) w.1).1)
+    let w = word_fitted (number MOST_MAP) l.words l.place map e in
+    (word_once (number MOST_MAP) decimal (λ v m is. (number_once MOST_MAP v m is).0) l map e, (number_once MOST_MAP w.0 map w.1).1)
 
 -- ---- calls
 
@@ -137,7 +114,7 @@ unfolding write_of
 write_once l c e =
     let seat = steps (fit seat_or_entry l) _ c e in
     let entry = steps (fit seat_or_entry (next l)) _ c seat.2 in
-    let map = steps (fit bit_map (next (next l))) _ c entry.2 in
+    let map = steps (fit (number MOST_MAP) (next (next l))) _ c entry.2 in
     let card = steps (card_of map.0 (next (next (next l)))) _ c map.2 in
     let m = map_once (next (next l)) map.0 map.1 in
     let text : 119 ∷ rest l ≡ call_text (call.Write seat.0 entry.0 card.0) =
@@ -169,6 +146,11 @@ call_once name l c =
     (or_once name 113 l _ _ c (one_once 113 call.End (λ _. refl) l c)
     (or_once name 99 l _ _ c (one_once 99 call.Collect (λ _. refl) l c) (λ e. cc)))))))))))
 
+letter_once : (w : List ℕ) (b : ℕ) → letter w ≡ Some b → w ≡ b ∷ []
+letter_once [] b e = absurd (none-some b e)
+letter_once (byte ∷ []) b e = ap (λ c. c ∷ []) (cond_some (is_letter (byte ∷ [])) byte b e).1
+letter_once (byte ∷ next ∷ bytes) b e = absurd (none-some b e)
+
 words_once : (line : List ℕ) (c : Call) → read_words (all_of line) ≡ Ok c → line ≡ call_text c
 unfolding read_words
 words_once line c e =
@@ -178,7 +160,7 @@ words_once line c e =
 
 -- a line that is read to a call is that call's
 pub line_once : (line : List ℕ) (c : Call) → read line ≡ Ok c → line ≡ call_text c
-line_once line c = cond_both (nat_lt 80 (length line)) (Err 0) (read_words (all_of line)) (λ r. r ≡ Ok c → line ≡ call_text c) (λ long e. cc) (λ short. words_once line c)
+line_once line c = cond_both (nat_lt MOST_LINE (length line)) (Err 0) (read_words (all_of line)) (λ r. r ≡ Ok c → line ≡ call_text c) (λ long e. cc) (λ short. words_once line c)
 
 -- the same of whatever a line is read to
 pub answer_once : (line : List ℕ) (r : Result Call ℕ) → r ≡ read line → IfOk r (λ c. line ≡ call_text c)

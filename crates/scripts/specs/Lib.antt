@@ -1,5 +1,5 @@
+pub mod Limits
 pub mod Lines
-pub mod Numbers
 pub mod Scripts
 pub mod Texts
 pub mod View

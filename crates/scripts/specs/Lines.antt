@@ -1,15 +1,18 @@
--- What a line of a script says: a call, or the place of the first word that does not fit.
-use Rattle.std.specs.Prelude.{ℕ, ◌+◌, ◌/◌, ◌%◌, Bool, cond, List, [], ◌∷◌, length, ℤ, Some, None, Ok, Err, Option, Result, option_and_then, ok_or, ◌==◌, nat_lt}
+-- What a line says: a call, or the place of the first word that does not fit.
+use Rattle.std.specs.Prelude.{ℕ, ◌+◌, ◌/◌, ◌%◌, Bool, List, [], ◌∷◌, length, ℤ, Some, None, Ok, Err, Option, Result, option_and_then, ok_or, ◌==◌, nat_lt, if◌then◌else◌}
+use Rattle.std.specs.Str.{byte}
 use Rattle.cards.specs.declared.card.Card.{Card}
 use Rattle.rules.specs.declared.call.Call.{Call}
 use Rattle.rules.specs.declared.call.Call.TheVariants as call
-use Rattle.scripts.specs.Words.{words, letter}
-use Rattle.scripts.specs.Numbers.{number, field}
+use Rattle.scripts.specs.Words.{words, letter, number, field}
+use Rattle.scripts.specs.declared.reader.TheConstants.{MOST_LINE, MOST_NUMBER, MOST_MAP}
 
 -- the words of a line that are still to be read, and the place of the first of them, from 1
 pub record Left : Type 0 where
   pub words : List (List ℕ)
   pub place : ℕ
+
+-- ---- one word
 
 -- the first of some words
 abbrev pub first : List (List ℕ) → Option (List ℕ)
@@ -20,7 +23,7 @@ first (word ∷ more) = Some word
 abbrev pub fit : {A : Type 0} → (List ℕ → Option A) → Left → Result A ℕ
 fit f l = ok_or (option_and_then f (first l.words)) l.place
 
--- what is left behind the next of some words, with its place
+-- what is left behind the next of some words
 abbrev next_of : List (List ℕ) → ℕ → Left
 next_of [] place = record { words = []; place = place }
 next_of (word ∷ more) place = record { words = more; place = place + 1 }
@@ -32,11 +35,13 @@ next l = next_of l.words l.place
 -- nothing, where no word is left; else the place of the first
 abbrev pub end_of : List (List ℕ) → ℕ → Result (Unit {0}) ℕ
 end_of [] place = Ok tt
-end_of (word ∷ more) place = Err place
+end_of words place = Err place
 
 -- the same of what is left of a line
 abbrev pub end : Left → Result (Unit {0}) ℕ
 end l = end_of l.words l.place
+
+-- ---- words in a row
 
 -- the first place that does not fit is the answer
 infixl 10 ◌>>=◌
@@ -46,11 +51,7 @@ abbrev pub ◌>>=◌ : {A B : Type 0} → Result A ℕ → (A → Result B ℕ) 
 
 -- a seat or an entry
 abbrev pub seat_or_entry : List ℕ → Option ℕ
-seat_or_entry word = number 65535 word
-
--- a bit map
-abbrev pub bit_map : List ℕ → Option ℕ
-bit_map word = number 63 word
+seat_or_entry word = number MOST_NUMBER word
 
 -- one number and nothing behind it
 unfoldable pub alone : Left → Result ℕ ℕ
@@ -74,11 +75,11 @@ there l = do
 
 -- a field whose bit stands is the next word; one whose bit does not is absent, and takes none
 abbrev pub fit_if : Bool → Left → Result (Option ℤ) ℕ
-fit_if present l = cond present (there l) (Ok None)
+fit_if present l = if present then there l else Ok None
 
 -- what is left behind such a field
 abbrev pub next_if : Bool → Left → Left
-next_if present l = cond present (next l) l
+next_if present l = if present then next l else l
 
 -- a bit of a map, by what it is worth
 abbrev pub bit_of : ℕ → ℕ → Bool
@@ -106,7 +107,7 @@ unfoldable pub write_of : Left → Result Call ℕ
 write_of l = do
   seat ← fit seat_or_entry l
   entry ← fit seat_or_entry (next l)
-  map ← fit bit_map (next (next l))
+  map ← fit (number MOST_MAP) (next (next l))
   card ← card_of map (next (next (next l)))
   Ok (call.Write seat entry card)
 
@@ -116,21 +117,23 @@ one make l = do
   n ← alone l
   Ok (make n)
 
--- the call that a letter names: p e r w l s u t d q c; another letter does not fit, and has place 1
+-- ---- a line
+
+-- the call that a letter names; another letter does not fit, and has place 1
 unfoldable pub call_of : ℕ → Left → Result Call ℕ
 call_of name l =
-    cond (name == 112) (one call.Proof l)
-    (cond (name == 101) (one call.Edit l)
-    (cond (name == 114) (read_of l)
-    (cond (name == 119) (write_of l)
-    (cond (name == 108) (one call.Lock l)
-    (cond (name == 115) (one call.Stamp l)
-    (cond (name == 117) (one call.Put l)
-    (cond (name == 116) (one call.Settle l)
-    (cond (name == 100) (one call.Drop l)
-    (cond (name == 113) (one call.End l)
-    (cond (name == 99) (one call.Collect l)
-    (Err 1)))))))))))
+    if name == byte "p" then one call.Proof l
+    else if name == byte "e" then one call.Edit l
+    else if name == byte "r" then read_of l
+    else if name == byte "w" then write_of l
+    else if name == byte "l" then one call.Lock l
+    else if name == byte "s" then one call.Stamp l
+    else if name == byte "u" then one call.Put l
+    else if name == byte "t" then one call.Settle l
+    else if name == byte "d" then one call.Drop l
+    else if name == byte "q" then one call.End l
+    else if name == byte "c" then one call.Collect l
+    else Err 1
 
 -- the words of a line before any is read
 abbrev pub all_of : List ℕ → Left
@@ -142,6 +145,6 @@ read_words l = do
   name ← fit letter l
   call_of name (next l)
 
--- the call of a line, or the place of the first word that does not fit; 0 for a line of more than 80 bytes
+-- the call of a line, or the place of the first word that does not fit; 0 for a line that is too long
 abbrev pub read : List ℕ → Result Call ℕ
-read line = cond (nat_lt 80 (length line)) (Err 0) (read_words (all_of line))
+read line = if nat_lt MOST_LINE (length line) then Err 0 else read_words (all_of line)

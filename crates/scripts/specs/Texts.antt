@@ -1,6 +1,7 @@
 -- What is written: a call as a line, and the line that answers one.
-use Rattle.std.specs.Prelude.{ℕ, List, [], ◌∷◌, ◌++◌, ℤ, Some, None, Ok, Err, Option, Result}
-use Rattle.std.specs.Fmt.{decimal, signed_decimal}
+use Rattle.std.specs.Prelude.{ℕ, List, [], ◌∷◌, ◌++◌, ℤ, Some, None, Ok, Err, Option, Result, codes, decimal, flat_map}
+use Rattle.std.specs.Fmt.{signed_decimal}
+use Rattle.std.specs.Str.{byte}
 use Rattle.cards.specs.Cards.{map_of}
 use Rattle.cards.specs.Refusals.{number_of}
 use Rattle.cards.specs.declared.card.Card.{Card}
@@ -13,30 +14,34 @@ use Rattle.rules.specs.declared.call.Call.TheVariants as call
 
 -- a number with one space before it
 abbrev pub spaced : ℕ → List ℕ
-spaced n = 32 ∷ decimal n
+spaced n = byte " " ∷ decimal n
 
 -- the same of a field, where it is there
 abbrev pub spaced_field : Option ℤ → List ℕ
 spaced_field None = []
-spaced_field (Some z) = 32 ∷ signed_decimal z
+spaced_field (Some z) = byte " " ∷ signed_decimal z
 
--- a card: its bit map, and the fields that are there, the lowest bit first
+-- the fields of a card, the lowest bit first
+abbrev pub fields : Card → List (Option ℤ)
+fields c = c.advance ∷ c.left_bearing ∷ c.anchor_across ∷ c.anchor_up ∷ c.mark_class ∷ c.kern ∷ []
+
+-- a card: its bit map, and the fields that are there
 abbrev pub card_text : Card → List ℕ
-card_text c = spaced (map_of c) ++ (spaced_field c.advance ++ (spaced_field c.left_bearing ++ (spaced_field c.anchor_across ++ (spaced_field c.anchor_up ++ (spaced_field c.mark_class ++ spaced_field c.kern)))))
+card_text c = spaced (map_of c) ++ flat_map spaced_field (fields c)
 
--- the letter that names a call: p e r w l s u t d q c
+-- the letter that names a call
 abbrev pub letter_of : Call → ℕ
-letter_of (call.Proof seat) = 112
-letter_of (call.Edit seat) = 101
-letter_of (call.Read seat entry) = 114
-letter_of (call.Write seat entry card) = 119
-letter_of (call.Lock seat) = 108
-letter_of (call.Stamp seat) = 115
-letter_of (call.Put seat) = 117
-letter_of (call.Settle seat) = 116
-letter_of (call.Drop seat) = 100
-letter_of (call.End seat) = 113
-letter_of (call.Collect entry) = 99
+letter_of (call.Proof seat) = byte "p"
+letter_of (call.Edit seat) = byte "e"
+letter_of (call.Read seat entry) = byte "r"
+letter_of (call.Write seat entry card) = byte "w"
+letter_of (call.Lock seat) = byte "l"
+letter_of (call.Stamp seat) = byte "s"
+letter_of (call.Put seat) = byte "u"
+letter_of (call.Settle seat) = byte "t"
+letter_of (call.Drop seat) = byte "d"
+letter_of (call.End seat) = byte "q"
+letter_of (call.Collect entry) = byte "c"
 
 -- the numbers of a call
 abbrev pub numbers_of : Call → List ℕ
@@ -69,8 +74,8 @@ outcome_text (Err refusal) = spaced (number_of refusal)
 
 -- the line that answers a call: its letter and its outcome
 abbrev pub answer_text : Call → Result Answer Refusal → List ℕ
-answer_text c outcome = letter_of c ∷ (outcome_text outcome ++ (10 ∷ []))
+answer_text c outcome = letter_of c ∷ (outcome_text outcome ++ codes "\n")
 
--- the line that answers a line that cannot be read: `?`, the refusal's number and the place of the first word that does not fit
+-- the line that answers a line that cannot be read, with the place of the first word that does not fit
 abbrev pub unread_text : ℕ → List ℕ
-unread_text place = 63 ∷ (spaced (number_of why.Line) ++ (spaced place ++ (10 ∷ [])))
+unread_text place = byte "?" ∷ (spaced (number_of why.Line) ++ (spaced place ++ codes "\n"))

@@ -1,8 +1,10 @@
--- The words of a line, and of which kind each is.
-use Rattle.std.specs.Prelude.{◌+◌, ℕ, Bool, false, cond, ◌&&◌, List, [], ◌∷◌, drop, Some, None, Option, ◌==◌, nat_le, nat_lt, length, slice_index}
+-- The words of a line, and the letters and numbers that words stand for.
+use Rattle.std.specs.Prelude.{◌+◌, ℕ, zero, suc, Bool, false, ◌&&◌, List, [], ◌∷◌, drop, length, ℤ, pos, negsuc, Some, None, Option, option_map, option_and_then, ◌==◌, nat_le, nat_lt, bytes_eq, decimal, slice_index, if◌then◌else◌}
 use Rattle.std.specs.Borrow.{Bor}
 use Rattle.std.specs.List.{slice_split, list_all}
-use Rattle.std.specs.Char.{is_ascii_digit}
+use Rattle.std.specs.Char.{is_ascii_lowercase, is_ascii_digit}
+use Rattle.std.specs.Str.Parse.{digits_value, starts_with_minus}
+use Rattle.scripts.specs.declared.word.TheConstants.{MOST_FIELD, MOST_BELOW}
 
 -- a space
 abbrev pub is_space : ℕ → Bool
@@ -12,43 +14,44 @@ is_space byte = byte == 32
 abbrev pub words : List ℕ → List (List ℕ)
 words line = slice_split is_space line
 
--- a byte from `a` to `z`
-abbrev pub is_small_letter : ℕ → Bool
-is_small_letter byte = nat_le 97 byte && nat_le byte 122
+-- the parts of what is left, none where nothing is
+abbrev pub parts_in : (ℕ → Bool) → Option (Bor (List ℕ)) → List (List ℕ)
+parts_in ends None = []
+parts_in ends (Some rest) = slice_split ends rest.now
 
--- nothing but bytes from `0` to `9`
-abbrev pub all_digits : List ℕ → Bool
-all_digits bytes = list_all is_ascii_digit bytes
-
--- it begins with a minus
-abbrev pub is_minus_first : List ℕ → Bool
-is_minus_first [] = false
-is_minus_first (byte ∷ bytes) = byte == 45
-
--- the word without the minus that it may begin with
-abbrev pub without_minus : List ℕ → List ℕ
-without_minus word = cond (is_minus_first word) (drop 1 word) word
-
--- one byte alone, a small letter
-abbrev pub is_letter : List ℕ → Bool
-is_letter [] = false
-is_letter (byte ∷ []) = is_small_letter byte
-is_letter (byte ∷ next ∷ bytes) = false
-
--- digits, one at least, and perhaps a minus before them
-abbrev pub is_number : List ℕ → Bool
-is_number word = nat_lt 0 (length (without_minus word)) && all_digits (without_minus word)
-
--- the letter of a word that is one
-abbrev pub letter : List ℕ → Option ℕ
-letter word = cond (is_letter word) (Some (slice_index word 0)) None
-
--- the words of what is left of a line, none where nothing is
-abbrev pub words_in : Option (Bor (List ℕ)) → List (List ℕ)
-words_in None = []
-words_in (Some bytes) = words bytes.now
-
--- the most words that what is left of a line can have
+-- the most words that can be left
 abbrev pub most_words : Option (Bor (List ℕ)) → ℕ
 most_words None = 0
-most_words (Some bytes) = length bytes.now + 1
+most_words (Some rest) = length rest.now + 1
+
+-- a small letter alone
+abbrev pub is_letter : List ℕ → Bool
+is_letter (byte ∷ []) = is_ascii_lowercase byte
+is_letter word = false
+
+-- the letter that a word is
+abbrev pub letter : List ℕ → Option ℕ
+letter word = if is_letter word then Some (slice_index word 0) else None
+
+-- the number, up to the most, whose decimal a word is; so no 0 leads another digit
+unfoldable pub number : ℕ → List ℕ → Option ℕ
+number most word =
+    if bytes_eq word (decimal (digits_value 10 word)) && nat_le (digits_value 10 word) most then Some (digits_value 10 word) else None
+
+-- the number below 0 of a size; there is no -0
+abbrev pub negative : ℕ → Option ℤ
+negative zero = None
+negative (suc n) = Some (negsuc n)
+
+-- the number of 16 bits that a word is, with a minus below 0
+abbrev pub field : List ℕ → Option ℤ
+field word =
+    if starts_with_minus word then option_and_then negative (number MOST_BELOW (drop 1 word)) else option_map pos (number MOST_FIELD word)
+
+-- one digit or more, and nothing else
+abbrev pub are_digits : List ℕ → Bool
+are_digits bytes = nat_lt 0 (length bytes) && list_all is_ascii_digit bytes
+
+-- digits, with perhaps a minus before them
+abbrev pub is_number : List ℕ → Bool
+is_number word = are_digits (if starts_with_minus word then drop 1 word else word)

@@ -1,13 +1,12 @@
-// The lines of a script, read to calls, and the lines that answer them.
+//! The lines of a script, read to calls, and the lines that answer them.
 #![tactic(auto)]
 
 mod bytes;
 mod cursor;
-mod numbers;
-pub mod reading;
-pub mod running;
+mod line;
+pub mod reader;
+pub mod run;
 mod script;
-mod taking;
-mod text;
-mod words;
-pub mod writing;
+pub mod theorems;
+mod word;
+pub mod writer;

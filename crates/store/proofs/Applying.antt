@@ -1,31 +1,15 @@
 -- Calls made in order, whose answers go into lent memory.
-use Rattle.std.proofs.Common.{◌≡◌, ℕ, ◌+◌, ◌<◌, ◌≤◌, Bool, true, false, cond, leb, List, [], ◌∷◌, ◌++◌, length, get_or, take, drop, set, Ok, Err, Result, sym, refl, ap, ◌∙◌, subst, arith}
+use Rattle.std.proofs.Common.{◌≡◌, ℕ, ◌+◌, ◌<◌, ◌≤◌, Bool, true, false, cond, leb, List, [], ◌∷◌, ◌++◌, length, get_or, take, drop, set, Ok, Err, Result, sym, refl, ap, ◌∙◌, arith}
 use Rattle.std.proofs.lemmas.List.{append_assoc, append-nil, take_more_set, drop-set-lt, drop_more, drop_all, take-append-drop}
 use Rattle.std.proofs.lemmas.Bool.{le-leb, lt-leb}
 use Rattle.cards.specs.declared.refusal.Refusal.{Refusal}
 use Rattle.cards.specs.declared.refusal.Refusal.TheVariants as why
-use Rattle.rules.specs.Runs.{Event, event, events, Reached, step, play, answers}
+use Rattle.rules.specs.Runs.{Event, events, Reached, step, play, answers}
 use Rattle.rules.specs.State.{State}
 use Rattle.rules.specs.declared.answer.Answer.{Answer}
 use Rattle.rules.specs.declared.call.Call.{Call}
-use Rattle.rules.proofs.Law.{law_holds_lem}
-use Rattle.rules.proofs.Runs.{play_reached}
+use Rattle.rules.proofs.Runs.{lawful_play}
 use Rattle.store.specs.Runs.{made, made_answer, answered_in, LawfulRun}
-
--- the events of the calls are those of their answers, whatever stands behind them
-events_front : (cs : List Call) (h : List Event) (s : State) (rest : List (Result Answer Refusal)) → events h cs (answers s cs ++ rest) ≡ events h cs (answers s cs)
-events_front [] h s rest = refl
-events_front (c ∷ cs) h s rest = events_front cs (event c (step s c).1 ∷ h) (step s c).0 rest
-
--- a run goes on by calls made in order, and the law holds of it
-lawful_play : (cs : List Call) (s t : State) (rs rest : List (Result Answer Refusal)) → t ≡ play s cs → rs ≡ answers s cs ++ rest → (h : List Event) → Reached h s → LawfulRun (events h cs rs) t
-lawful_play cs s t rs rest p q h r = (next, law_holds_lem (events h cs rs) t next)
-  where
-    told : events h cs rs ≡ events h cs (answers s cs)
-    told = ap (events h cs) q ∙ events_front cs h s rest
-
-    next : Reached (events h cs rs) t
-    next = subst (λ (x : State). Reached (events h cs rs) x) (sym p) (subst (λ (x : List Event). Reached x (play s cs)) (sym told) (play_reached cs h s r))
 
 -- from the state s and the memory old, the first i of the calls cs led to the state v and the memory rs
 abbrev pub Played : State → List Call → List (Result Answer Refusal) → ℕ → State → List (Result Answer Refusal) → Type 0

@@ -1,5 +1,5 @@
 -- Which calls change the keeper, a list of calls whose answers go into lent memory, and the law of a store's history.
-use Rattle.std.specs.Prelude.{ℕ, Bool, true, false, cond, List, [], ◌++◌, length, drop, Ok, Err, Result, nat_le}
+use Rattle.std.specs.Prelude.{ℕ, Bool, true, false, List, [], ◌++◌, length, drop, Ok, Err, Result, nat_le, if◌then◌else◌}
 use Rattle.cards.specs.declared.refusal.Refusal.{Refusal}
 use Rattle.cards.specs.declared.refusal.Refusal.TheVariants as why
 use Rattle.rules.specs.Law.{Law}
@@ -11,25 +11,17 @@ use Rattle.rules.specs.declared.call.Call.TheVariants as call
 
 -- put and collect change the keeper, and no other call does
 abbrev pub changes_keeper : Call → Bool
-changes_keeper (call.Proof k) = false
-changes_keeper (call.Edit k) = false
-changes_keeper (call.Read k n) = false
-changes_keeper (call.Write k n c) = false
-changes_keeper (call.Lock k) = false
-changes_keeper (call.Stamp k) = false
 changes_keeper (call.Put k) = true
-changes_keeper (call.Settle k) = false
-changes_keeper (call.Drop k) = false
-changes_keeper (call.End k) = false
 changes_keeper (call.Collect n) = true
+changes_keeper c = false
 
 -- the calls that are made where so many answers have a place: all or, where that is too few, none
 abbrev pub made : List Call → ℕ → List Call
-made cs n = cond (nat_le (length cs) n) cs []
+made cs n = if nat_le (length cs) n then cs else []
 
 -- Short where the answers have too few places
 abbrev pub made_answer : List Call → ℕ → Result (Unit {0}) Refusal
-made_answer cs n = cond (nat_le (length cs) n) (Ok tt) (Err why.Short)
+made_answer cs n = if nat_le (length cs) n then Ok tt else Err why.Short
 
 -- the memory after: the answers to the calls that are made, and what stood behind them
 abbrev pub answered_in : State → List Call → List (Result Answer Refusal) → List (Result Answer Refusal)

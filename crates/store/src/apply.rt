@@ -1,8 +1,8 @@
-// Any one call, and any list of calls.
-ghost use Rattle.std.specs.Prelude.{◌≡◌, false, List, ◌∷◌, is_ok, length};
-ghost use Rattle.rules.specs.Runs.{Event, event, events, Reached, step, play};
+//! Any one call, and any list of calls.
+ghost use Rattle.std.specs.Prelude.{◌≡◌, OnErr, List, ◌∷◌, length};
+ghost use Rattle.std.specs.Bool.{OnFalse};
+ghost use Rattle.rules.specs.Runs.{Event, event, events, Reached, rule_of, play};
 ghost use Rattle.store.specs.Runs.{changes_keeper, made, made_answer, answered_in, LawfulRun};
-ghost use Rattle.store.specs.View.{view};
 
 use crate::store::Store;
 use cards::refusal::Refusal;
@@ -11,12 +11,13 @@ use rules::answer::Answer;
 use rules::call::Call;
 
 impl<K: Keeper> Store<K> {
-    // Makes one call by its rule. It stands apart so that the law of `apply` can be proved from this contract.
+    ghost use Rattle.store.specs.View.{view, Does};
+
+    // Makes one call by its rule. It stands apart so that the law of `apply` follows from this contract, and not once for each call.
+    #[tactic(auto, using(crate::proofs::Answering::answerings))]
     fn make(&mut self, call: Call) -> Result<Answer, Refusal>
-        ensures state { view K.kept K.places self.new ≡ (step (view K.kept K.places self.old) call).0 }
-        ensures answer { result ≡ (step (view K.kept K.places self.old) call).1 }
-        ensures keeper { changes_keeper call ≡ false → self.new.keeper ≡ self.old.keeper }
-        ensures same { is_ok result ≡ false → self.new ≡ self.old }
+        ensures call { Does K.means (rule_of call) self.old self.new result }
+        ensures keeper { OnFalse (changes_keeper call) (self.new.keeper ≡ self.old.keeper) }
     {
         match call {
             Call::Proof { seat } => self.proof(seat).map(Answer::Number),
@@ -35,29 +36,33 @@ impl<K: Keeper> Store<K> {
         }
     }
 
-    // Makes one call. The law holds of every history that led to this store, with this call and its answer.
+    /// Makes one call, and answers and declines as it does by its name. The law holds of every history that led to this store, with this
+    /// call and its answer.
     pub fn apply(&mut self, call: Call) -> Result<Answer, Refusal>
-        ensures state { view K.kept K.places self.new ≡ (step (view K.kept K.places self.old) call).0 }
-        ensures answer { result ≡ (step (view K.kept K.places self.old) call).1 }
-        ensures keeper { changes_keeper call ≡ false → self.new.keeper ≡ self.old.keeper }
-        ensures same { is_ok result ≡ false → self.new ≡ self.old }
-        ensures law { (h : List Event) → Reached h (view K.kept K.places self.old) → LawfulRun (event call result ∷ h) (view K.kept K.places self.new) }
+        ensures call { Does K.means (rule_of call) self.old self.new result }
+        ensures keeper { OnFalse (changes_keeper call) (self.new.keeper ≡ self.old.keeper) }
+        ensures law { (h : List Event) → Reached h (view K.means self.old) →
+            LawfulRun (event call result ∷ h) (view K.means self.new) }
     {
         self.make(call)
     }
 
-    // Makes calls in order, and gives their answers; Short, before any is made, where the answers have too few places. The
-    // law holds of every history that led to this store, with these calls and their answers.
+    /// Makes calls in order, and gives their answers. The law holds of every history that led to this store, with these calls and their
+    /// answers.
+    ///
+    /// Declined by `Short`, before any call is made, where the answers have too few places.
     pub fn apply_all(
         &mut self,
         calls: &[Call],
         answers: &mut [Result<Answer, Refusal>],
     ) -> Result<(), Refusal>
-        ensures state { view K.kept K.places self.new ≡ play (view K.kept K.places self.old) (made calls.now (length answers.old)) }
-        ensures answers { answers.new ≡ answered_in (view K.kept K.places self.old) calls.now answers.old }
+        ensures state { view K.means self.new ≡
+            play (view K.means self.old) (made calls.now (length answers.old)) }
+        ensures answers { answers.new ≡ answered_in (view K.means self.old) calls.now answers.old }
         ensures result { result ≡ made_answer calls.now (length answers.old) }
-        ensures same { is_ok result ≡ false → self.new ≡ self.old }
-        ensures law { (h : List Event) → Reached h (view K.kept K.places self.old) → LawfulRun (events h (made calls.now (length answers.old)) answers.new) (view K.kept K.places self.new) }
+        ensures same { OnErr result (self.new ≡ self.old) }
+        ensures law { (h : List Event) → Reached h (view K.means self.old) →
+            LawfulRun (events h (made calls.now (length answers.old)) answers.new) (view K.means self.new) }
     {
         if answers.len() < calls.len() {
             return Err(Refusal::Short);

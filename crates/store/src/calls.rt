@@ -1,8 +1,9 @@
-// The eleven calls. Each does what its rule says, and answers what its rule says.
-ghost use Rattle.std.specs.Prelude.{◌≡◌, false, is_ok};
-ghost use Rattle.rules.specs.Rules.{proof, edit, read_edit, read, write, lock, stamp, put, settle, dropping, ending, collect};
-ghost use Rattle.rules.specs.State.{seat as seat-of, look};
-ghost use Rattle.store.specs.View.{view};
+//! The calls. Each does what its rule says, and answers what its rule says; declined, it leaves the store, its keeper and all memory as they
+//! were. Where several refusals apply, the one with the least number is given.
+ghost use Rattle.std.specs.Prelude.{◌≡◌};
+ghost use Rattle.rules.specs.Rules.{proof, edit, read_edit, read, write, lock, stamp, put, settle, drop_edit, end, collect};
+ghost use Rattle.rules.specs.Seat.{draft_of};
+ghost use Rattle.rules.specs.State.{seat as seat-of};
 
 use crate::store::Store;
 use cards::card::Card;
@@ -10,81 +11,83 @@ use cards::draft::Draft;
 use cards::refusal::Refusal;
 use keepers::keeper::Keeper;
 use keepers::version::Version;
-use rows::locks::{release_locks, take_locks};
-use rows::reading::{any_held, any_stale, held};
-use rows::row::{row_of, set_row};
+use rules::limits::LAST_TIME;
 use rules::row::Row;
 use rules::stage::Stage;
-use seats::numbered::{
-    begin, draft, draft_at, draft_of, drafts_len, drafts_of, go_on, note, reads_of,
-};
-use seats::unput::lacks_places;
-
-// The last time that the clock gives.
-const LAST_TIME: u32 = 1_000_000;
+use table::rows::locked_by_other;
+use table::seat::Seat;
+use table::seat_number::SeatNumber;
 
 impl<K: Keeper> Store<K> {
-    // Opens a proof on a seat, and answers its start.
+    ghost use Rattle.store.specs.View.{Does};
+
+    /// Opens a proof on an idle seat, and answers its start, which is the ready point: up to it everything that was stamped is put.
+    ///
+    /// Declined by `Seat` above 15, and by `Stage` where the seat is not idle.
     pub fn proof(&mut self, seat: u16) -> Result<u32, Refusal>
-        ensures state { view K.kept K.places self.new ≡ (proof (view K.kept K.places self.old) seat).0 }
-        ensures answer { result ≡ (proof (view K.kept K.places self.old) seat).1 }
+        ensures call { Does K.means (proof seat) self.old self.new result }
         ensures keeper { self.new.keeper ≡ self.old.keeper }
-        ensures same { is_ok result ≡ false → self.new ≡ self.old }
     {
+        let seat = SeatNumber::try_from(seat)?;
         let table = &mut self.table;
-        let Stage::Idle = table.stage(seat)? else {
+        let Stage::Idle = table.seat(seat).stage() else {
             return Err(Refusal::Stage);
         };
         let start = table.ready();
-        begin(&mut table.seats, seat, Stage::Proof { start });
+        table.seats[usize::from(seat)].begin(Stage::Proof { start });
         Ok(start)
     }
 
-    // Opens an edit on a seat, and answers its start.
+    /// Opens an edit on an idle seat, and answers its start, which is the clock.
+    ///
+    /// Declined by `Seat` above 15, and by `Stage` where the seat is not idle.
     pub fn edit(&mut self, seat: u16) -> Result<u32, Refusal>
-        ensures state { view K.kept K.places self.new ≡ (edit (view K.kept K.places self.old) seat).0 }
-        ensures answer { result ≡ (edit (view K.kept K.places self.old) seat).1 }
+        ensures call { Does K.means (edit seat) self.old self.new result }
         ensures keeper { self.new.keeper ≡ self.old.keeper }
-        ensures same { is_ok result ≡ false → self.new ≡ self.old }
     {
+        let seat = SeatNumber::try_from(seat)?;
         let table = &mut self.table;
-        let Stage::Idle = table.stage(seat)? else {
+        let Stage::Idle = table.seat(seat).stage() else {
             return Err(Refusal::Stage);
         };
         let start = table.clock;
-        begin(&mut table.seats, seat, Stage::Edit { start });
+        table.seats[usize::from(seat)].begin(Stage::Edit { start });
         Ok(start)
     }
 
     // What an edit reads: its own draft, or the newest card, and then the entry joins its reading list once.
-    fn read_edit(&mut self, seat: u16, entry: u16, start: u32) -> Result<Card, Refusal>
-        ensures state { view K.kept K.places self.new ≡ (read_edit (view K.kept K.places self.old) seat entry start (look (seat-of (view K.kept K.places self.old) seat).drafts entry)).0 }
-        ensures answer { result ≡ (read_edit (view K.kept K.places self.old) seat entry start (look (seat-of (view K.kept K.places self.old) seat).drafts entry)).1 }
+    fn read_edit(&mut self, seat: SeatNumber, entry: u16, start: u32) -> Result<Card, Refusal>
+        ensures call { Does K.means
+            (λ s. read_edit seat.number entry start s (draft_of (seat-of s seat.number).drafts entry))
+            self.old self.new result }
         ensures keeper { self.new.keeper ≡ self.old.keeper }
-        ensures same { is_ok result ≡ false → self.new ≡ self.old }
     {
-        if let Some(card) = draft_of(&self.table.seats, seat, entry) {
+        if let Some(card) = self.table.seat(seat).draft_of(entry) {
             return Ok(card);
         }
-        let row = row_of(self.table.rows(), entry);
-        if held(row, seat) {
+        let row = self.table.rows.row_of(entry);
+        if locked_by_other(row, seat) {
             return Err(Refusal::Held);
         }
         if row.time > start {
             return Err(Refusal::Stale);
         }
-        note(&mut self.table.seats, seat, entry)?;
+        self.table.seats[usize::from(seat)].note(entry)?;
         Ok(self.card_at(entry, row.time))
     }
 
-    // Reads an entry's card.
+    /// Reads an entry's card. A proof reads the card of its start. An edit reads its own draft, or without one the newest card, and then the
+    /// entry joins its reading list, once.
+    ///
+    /// Declined by `Seat` above 15, by `Stage` where neither a proof nor an edit is open on the seat, and by `Entry` for an entry that the
+    /// store does not have; an edit that has not drafted the entry also by `Held` where another seat has it locked, by `Stale` where it has
+    /// changed since the edit's start, and by `List` where it would be the 33rd read.
     pub fn read(&mut self, seat: u16, entry: u16) -> Result<Card, Refusal>
-        ensures state { view K.kept K.places self.new ≡ (read (view K.kept K.places self.old) seat entry).0 }
-        ensures answer { result ≡ (read (view K.kept K.places self.old) seat entry).1 }
+        ensures call { Does K.means (read seat entry) self.old self.new result }
         ensures keeper { self.new.keeper ≡ self.old.keeper }
-        ensures same { is_ok result ≡ false → self.new ≡ self.old }
     {
-        let stage = self.table.stage(seat)?;
+        let seat = SeatNumber::try_from(seat)?;
+        let stage = self.table.seat(seat).stage();
         let (Stage::Proof { start } | Stage::Edit { start }) = stage else {
             return Err(Refusal::Stage);
         };
@@ -95,63 +98,71 @@ impl<K: Keeper> Store<K> {
         Ok(self.card_at(entry, start))
     }
 
-    // Drafts a card for an entry.
+    /// Drafts a card for an entry, in place of the edit's earlier draft of it or behind its others.
+    ///
+    /// Declined by `Seat` above 15, by `Stage` where no edit is open on the seat, by `Entry` for an entry that the store does not have, by
+    /// `Misfit` for a card with a field that the entry's kind may not bear, and by `List` where it would be the 17th draft.
     pub fn write(&mut self, seat: u16, entry: u16, card: Card) -> Result<(), Refusal>
-        ensures state { view K.kept K.places self.new ≡ (write (view K.kept K.places self.old) seat entry card).0 }
-        ensures answer { result ≡ (write (view K.kept K.places self.old) seat entry card).1 }
+        ensures call { Does K.means (write seat entry card) self.old self.new result }
         ensures keeper { self.new.keeper ≡ self.old.keeper }
-        ensures same { is_ok result ≡ false → self.new ≡ self.old }
     {
+        let seat = SeatNumber::try_from(seat)?;
         let table = &mut self.table;
-        let Stage::Edit { .. } = table.stage(seat)? else {
+        let Stage::Edit { .. } = table.seat(seat).stage() else {
             return Err(Refusal::Stage);
         };
         table.check_entry(entry)?;
         if !table.fits(entry, card) {
             return Err(Refusal::Misfit);
         }
-        draft(&mut table.seats, seat, entry, card)
+        table.seats[usize::from(seat)].draft(entry, card)
     }
 
-    // Locks the drafted entries, and answers how many.
-    #[tactic(auto, using(crate::proofs::Fronts::fronts))]
+    /// Locks the entries that an edit has drafted, all or none, and answers how many.
+    ///
+    /// Declined by `Seat` above 15, by `Stage` where no edit is open on the seat, and by `Held` where another seat has one of them locked.
     pub fn lock(&mut self, seat: u16) -> Result<u32, Refusal>
-        ensures state { view K.kept K.places self.new ≡ (lock (view K.kept K.places self.old) seat).0 }
-        ensures answer { result ≡ (lock (view K.kept K.places self.old) seat).1 }
+        ensures call { Does K.means (lock seat) self.old self.new result }
         ensures keeper { self.new.keeper ≡ self.old.keeper }
-        ensures same { is_ok result ≡ false → self.new ≡ self.old }
     {
+        let seat = SeatNumber::try_from(seat)?;
         let table = &mut self.table;
-        let Stage::Edit { start } = table.stage(seat)? else {
+        let Stage::Edit { start } = table.seat(seat).stage() else {
             return Err(Refusal::Stage);
         };
-        if any_held(table.rows(), seat, drafts_of(&table.seats, seat)) {
+        let drafts = table.seat(seat).drafts();
+        if table.rows.any_locked_by_other(seat, drafts) {
             return Err(Refusal::Held);
         }
-        take_locks(&mut table.rows, seat, drafts_of(&table.seats, seat));
-        go_on(&mut table.seats, seat, Stage::Locked { start });
-        Ok(drafts_len(&table.seats, seat))
+        let seats: &[Seat] = &table.seats;
+        let drafts = seats[usize::from(seat)].drafts();
+        table.rows.take_locks(seat, drafts);
+        table.seats[usize::from(seat)].go_on(Stage::Locked { start });
+        Ok(table.seat(seat).drafts_len())
     }
 
-    // Takes the next time for a locked edit whose reads still stand, and answers it.
+    /// Takes the next time for a locked edit whose reads still stand, and answers it.
+    ///
+    /// Declined by `Seat` above 15, by `Stage` where no edit is locked on the seat, by `Held` where another seat has an entry locked that the
+    /// edit has read, by `Stale` where one of them has changed since its start, by `Places` where the keeper lacks places for its drafts
+    /// and those that other stamped edits have still to put, and by `Clock` where the clock is 1,000,000.
     pub fn stamp(&mut self, seat: u16) -> Result<u32, Refusal>
-        ensures state { view K.kept K.places self.new ≡ (stamp (view K.kept K.places self.old) seat).0 }
-        ensures answer { result ≡ (stamp (view K.kept K.places self.old) seat).1 }
+        ensures call { Does K.means (stamp seat) self.old self.new result }
         ensures keeper { self.new.keeper ≡ self.old.keeper }
-        ensures same { is_ok result ≡ false → self.new ≡ self.old }
     {
+        let seat = SeatNumber::try_from(seat)?;
         let table = &mut self.table;
-        let Stage::Locked { start } = table.stage(seat)? else {
+        let Stage::Locked { start } = table.seat(seat).stage() else {
             return Err(Refusal::Stage);
         };
-        let reads = reads_of(&table.seats, seat);
-        if any_held(table.rows(), seat, reads) {
+        let reads = table.seat(seat).reads();
+        if table.rows.any_locked_by_other(seat, reads) {
             return Err(Refusal::Held);
         }
-        if any_stale(table.rows(), start, reads) {
+        if table.rows.any_stale(start, reads) {
             return Err(Refusal::Stale);
         }
-        if lacks_places(&table.seats, seat, self.keeper.spare()) {
+        if table.lacks_places(seat, self.keeper.spare()) {
             return Err(Refusal::Places);
         }
         if table.clock >= LAST_TIME {
@@ -159,90 +170,95 @@ impl<K: Keeper> Store<K> {
         }
         let time = table.clock + 1;
         table.clock = time;
-        go_on(&mut table.seats, seat, Stage::Stamped { time, put: 0 });
+        table.seats[usize::from(seat)].go_on(Stage::Stamped { time, put: 0 });
         Ok(time)
     }
 
-    // Hands the next draft to the keeper, gives its row the edit's time, unlocks it, and answers how many drafts are left.
-    #[tactic(auto, using(crate::proofs::Fronts::fronts))]
+    /// Hands a stamped edit's next draft to the keeper, gives its row the edit's time, unlocks it, and answers how many drafts are left.
+    ///
+    /// Declined by `Seat` above 15, and by `Stage` where no edit is stamped on the seat, or none of its drafts is left.
     pub fn put(&mut self, seat: u16) -> Result<u32, Refusal>
-        ensures state { view K.kept K.places self.new ≡ (put (view K.kept K.places self.old) seat).0 }
-        ensures answer { result ≡ (put (view K.kept K.places self.old) seat).1 }
-        ensures same { is_ok result ≡ false → self.new ≡ self.old }
+        ensures call { Does K.means (put seat) self.old self.new result }
     {
+        let seat = SeatNumber::try_from(seat)?;
         let table = &mut self.table;
-        let Stage::Stamped { time, put } = table.stage(seat)? else {
+        let Stage::Stamped { time, put } = table.seat(seat).stage() else {
             return Err(Refusal::Stage);
         };
-        let count = drafts_len(&table.seats, seat);
-        let draft = draft_at(&table.seats, seat, put).ok_or(Refusal::Stage)?;
+        let count = table.seat(seat).drafts_len();
+        let draft = table.seat(seat).draft_at(put).ok_or(Refusal::Stage)?;
         let Draft { entry, card } = draft;
         self.keeper.add(Version { entry, time, card })?;
-        set_row(&mut table.rows, entry, Row { time, lock: None });
+        table.rows.set_row(entry, Row { time, lock: None });
         let put = put + 1;
-        go_on(&mut table.seats, seat, Stage::Stamped { time, put });
+        table.seats[usize::from(seat)].go_on(Stage::Stamped { time, put });
         Ok(count - put)
     }
 
-    // Closes a stamped edit, and answers its time.
+    /// Closes a stamped edit, and answers its time. A proof that begins afterwards reads it.
+    ///
+    /// Declined by `Seat` above 15, by `Stage` where no edit is stamped on the seat, by `Unput` where a draft is left to put, and by `Waiting`
+    /// where an edit with a lesser time has one left.
     pub fn settle(&mut self, seat: u16) -> Result<u32, Refusal>
-        ensures state { view K.kept K.places self.new ≡ (settle (view K.kept K.places self.old) seat).0 }
-        ensures answer { result ≡ (settle (view K.kept K.places self.old) seat).1 }
+        ensures call { Does K.means (settle seat) self.old self.new result }
         ensures keeper { self.new.keeper ≡ self.old.keeper }
-        ensures same { is_ok result ≡ false → self.new ≡ self.old }
     {
+        let seat = SeatNumber::try_from(seat)?;
         let table = &mut self.table;
-        let Stage::Stamped { time, put } = table.stage(seat)? else {
+        let Stage::Stamped { time, put } = table.seat(seat).stage() else {
             return Err(Refusal::Stage);
         };
-        if put < drafts_len(&table.seats, seat) {
+        if put < table.seat(seat).drafts_len() {
             return Err(Refusal::Unput);
         }
         if table.ready() < time {
             return Err(Refusal::Waiting);
         }
-        begin(&mut table.seats, seat, Stage::Idle);
+        table.seats[usize::from(seat)].begin(Stage::Idle);
         Ok(time)
     }
 
-    // Gives an edit up, and releases its locks. It is the call drop: a method of that name is taken by the language.
-    #[tactic(auto, using(crate::proofs::Fronts::fronts))]
+    /// Gives an open or a locked edit up, and releases its locks. (`drop` itself is a word of the language.)
+    ///
+    /// Declined by `Seat` above 15, and by `Stage` where no edit is open or locked on the seat.
     pub fn drop_edit(&mut self, seat: u16) -> Result<(), Refusal>
-        ensures state { view K.kept K.places self.new ≡ (dropping (view K.kept K.places self.old) seat).0 }
-        ensures answer { result ≡ (dropping (view K.kept K.places self.old) seat).1 }
+        ensures call { Does K.means (drop_edit seat) self.old self.new result }
         ensures keeper { self.new.keeper ≡ self.old.keeper }
-        ensures same { is_ok result ≡ false → self.new ≡ self.old }
     {
+        let seat = SeatNumber::try_from(seat)?;
         let table = &mut self.table;
-        let (Stage::Edit { .. } | Stage::Locked { .. }) = table.stage(seat)? else {
+        let (Stage::Edit { .. } | Stage::Locked { .. }) = table.seat(seat).stage() else {
             return Err(Refusal::Stage);
         };
-        release_locks(&mut table.rows, seat, drafts_of(&table.seats, seat));
-        begin(&mut table.seats, seat, Stage::Idle);
+        let seats: &[Seat] = &table.seats;
+        let drafts = seats[usize::from(seat)].drafts();
+        table.rows.release_locks(seat, drafts);
+        table.seats[usize::from(seat)].begin(Stage::Idle);
         Ok(())
     }
 
-    // Closes a proof.
+    /// Closes a proof.
+    ///
+    /// Declined by `Seat` above 15, and by `Stage` where no proof is open on the seat.
     pub fn end(&mut self, seat: u16) -> Result<(), Refusal>
-        ensures state { view K.kept K.places self.new ≡ (ending (view K.kept K.places self.old) seat).0 }
-        ensures answer { result ≡ (ending (view K.kept K.places self.old) seat).1 }
+        ensures call { Does K.means (end seat) self.old self.new result }
         ensures keeper { self.new.keeper ≡ self.old.keeper }
-        ensures same { is_ok result ≡ false → self.new ≡ self.old }
     {
+        let seat = SeatNumber::try_from(seat)?;
         let table = &mut self.table;
-        let Stage::Proof { .. } = table.stage(seat)? else {
+        let Stage::Proof { .. } = table.seat(seat).stage() else {
             return Err(Refusal::Stage);
         };
-        begin(&mut table.seats, seat, Stage::Idle);
+        table.seats[usize::from(seat)].begin(Stage::Idle);
         Ok(())
     }
 
-    // Removes an entry's oldest version if no proof can need it, which is so where its follower's time is up to the floor;
-    // answers its time.
+    /// Removes an entry's oldest version if no proof can need it, which is so where the next one has a time that is not above the floor: the
+    /// ready point, or the start of an open proof if that is less. Answers the time of the version.
+    ///
+    /// Declined by `Entry` for an entry that the store does not have, and by `Needed` where there is no such version.
     pub fn collect(&mut self, entry: u16) -> Result<u32, Refusal>
-        ensures state { view K.kept K.places self.new ≡ (collect (view K.kept K.places self.old) entry).0 }
-        ensures answer { result ≡ (collect (view K.kept K.places self.old) entry).1 }
-        ensures same { is_ok result ≡ false → self.new ≡ self.old }
+        ensures call { Does K.means (collect entry) self.old self.new result }
     {
         self.table.check_entry(entry)?;
         let floor = self.table.floor();

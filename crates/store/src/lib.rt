@@ -1,13 +1,11 @@
-// The store: eleven calls over any keeper, and the law of every run of them.
+//! The store: its calls over any keeper, and the law of every run of them.
 #![tactic(auto)]
 
 mod apply;
-mod asking;
 mod calls;
-mod looking;
-mod making;
 pub mod run;
 mod store;
 
 pub use crate::store::Store;
-pub use table::sizes::{Sizes, check};
+pub use rules::sizes::Sizes;
+pub use table::sizes::check;

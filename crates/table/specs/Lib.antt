@@ -1,2 +1,5 @@
+pub mod GoesBy
+pub mod Once
+pub mod SeatNumbers
 pub mod Sizes
 pub mod View

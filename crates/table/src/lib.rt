@@ -1,8 +1,10 @@
-// The table: what a store has beside its keeper, and its sizes.
+//! The table: what a store has beside its keeper.
 #![tactic(auto)]
 
-mod asking;
 pub mod counts;
-mod making;
+pub mod rows;
+pub mod seat;
+pub mod seat_number;
+mod short;
 pub mod sizes;
 pub mod table;

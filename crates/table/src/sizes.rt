@@ -1,37 +1,30 @@
-// How many entries of each kind a store has, and which numbers of them it may have.
+//! Which numbers of entries a store may have.
 ghost use Rattle.std.specs.Prelude.{◌≡◌};
-ghost use Rattle.table.specs.Sizes.{suits, sizes_answer};
+ghost use Rattle.rules.specs.NewStore.{suits};
+ghost use Rattle.table.specs.Sizes.{sizes_answer};
 
+use cards::entry::ENTRIES;
 use cards::refusal::Refusal;
-use keepers::entry::ENTRIES;
 use keepers::memory::check_memory;
+pub use rules::sizes::Sizes;
 
-// Entries are numbered from 0, the letters first, then the marks, then the pairs.
-#[derive(Clone, Copy, Default)]
-pub struct Sizes {
-    pub letters: usize,
-    pub marks: usize,
-    pub pairs: usize,
+// Whether a store may have these sizes: one entry at least, and 1,024 at most.
+pub(crate) fn suits(sizes: Sizes) -> bool
+    ensures { result ≡ suits sizes }
+{
+    let entries = sizes
+        .letters
+        .saturating_add(sizes.marks)
+        .saturating_add(sizes.pairs);
+    entries > 0 && entries <= ENTRIES
 }
 
-impl Sizes {
-    // Whether a store may have them: at least one entry, and at most 1,024.
-    pub(crate) fn suit(self) -> bool
-        ensures { result ≡ suits self }
-    {
-        let entries = self
-            .letters
-            .saturating_add(self.marks)
-            .saturating_add(self.pairs);
-        entries > 0 && entries <= ENTRIES
-    }
-}
-
-// Whether a store can be made with these sizes over memory of so many places.
+/// Whether a store can be made with these sizes over memory of so many places: `Sizes` for sizes that no store may have, or for memory
+/// that would not be used whole.
 pub fn check(sizes: Sizes, places: usize) -> Result<(), Refusal>
     ensures { result ≡ sizes_answer sizes places }
 {
-    if !sizes.suit() {
+    if !suits(sizes) {
         return Err(Refusal::Sizes);
     }
     check_memory(places)

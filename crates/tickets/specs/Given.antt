@@ -1,5 +1,5 @@
--- What a call through a ticket gives, by the answer of the call by its number on the ticket's seat.
-use Rattle.std.specs.Prelude.{ℕ, Bool, true, false, cond, not, ◌&&◌, Some, Ok, Err, Result, ◌==◌}
+-- What a call through a ticket answers, by the answer of the call by its number on the ticket's seat.
+use Rattle.std.specs.Prelude.{ℕ, Bool, true, false, not, ◌&&◌, Some, Ok, Err, Result, ◌==◌, if◌then◌else◌}
 use Rattle.std.specs.Option.{unwrap_or}
 use Rattle.cards.specs.Refusals.{number_of}
 use Rattle.cards.specs.declared.refusal.Refusal.{Refusal}
@@ -11,6 +11,7 @@ use Rattle.tickets.specs.declared.edit.EditTicket.{EditTicket}
 use Rattle.tickets.specs.declared.locked.LockedTicket.{LockedTicket}
 use Rattle.tickets.specs.declared.proof.ProofTicket.{ProofTicket}
 use Rattle.tickets.specs.declared.stamped.StampedTicket.{StampedTicket}
+use Rattle.tickets.specs.declared.stamped.TheConstants.{NO_SEAT}
 
 -- ---- tickets of a seat
 
@@ -28,7 +29,7 @@ stamped_ticket k = record { seat = Some k }
 
 -- the seat that a stamped ticket names; a spent one would name a seat that no store has
 abbrev pub named : StampedTicket → ℕ
-named t = unwrap_or t.seat 65535
+named t = unwrap_or t.seat NO_SEAT
 
 -- ---- granted and declined
 
@@ -38,7 +39,7 @@ is_stage r = number_of r == 2
 
 -- a ticket whose call is declined is taken in, or given back
 abbrev pub declined : {T : Type 0} → Bool → T → Refusal → Declined T
-declined gone t r = cond gone TakenIn (Back r t)
+declined gone t r = if gone then TakenIn else Back r t
 
 -- proof and edit give a ticket beside their start
 abbrev pub with_ticket : {T : Type 0} → T → Result ℕ Refusal → Result (ℕ × T) Refusal
@@ -57,11 +58,8 @@ closed t (Err r) = Err (declined (is_stage r) t r)
 
 -- a stamped edit
 abbrev pub is_stamped : Stage → Bool
-is_stamped stage.Idle = false
-is_stamped (stage.Proof t) = false
-is_stamped (stage.Edit t) = false
-is_stamped (stage.Locked t) = false
 is_stamped (stage.Stamped t p) = true
+is_stamped g = false
 
 -- put gives the ticket back also where a stamped edit has no draft left
 abbrev pub put_passed : {T : Type 0} → T → Bool → Result ℕ Refusal → Result (ℕ × T) (Declined T)

@@ -1,15 +1,15 @@
-// What becomes of a ticket when its call is declined.
+//! What becomes of a ticket when its call is declined.
 ghost use Rattle.std.specs.Prelude.{◌≡◌};
 ghost use Rattle.tickets.specs.Given.{is_stage, declined};
 
 use cards::refusal::Refusal;
 
-// A call that takes a ticket gives it back where it is declined, unless the seat is not in the ticket's stage.
+/// A call that takes a ticket gives it back where it is declined, unless the seat is not in the ticket's stage.
 #[derive(Drop)]
 pub enum Declined<T> {
-    // Declined by `why`, and the ticket is given back.
+    /// Declined by `why`, and the ticket is given back.
     Back { why: Refusal, ticket: T },
-    // Declined by Stage, and the ticket is taken in.
+    /// Declined by `Stage`, and the ticket is taken in.
     TakenIn,
 }
 

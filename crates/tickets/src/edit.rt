@@ -1,7 +1,7 @@
-// The ticket of an open edit.
-ghost use Rattle.std.specs.Prelude.{◌≡◌, false, is_ok};
-ghost use Rattle.rules.specs.Rules.{edit, read, write, lock, dropping};
-ghost use Rattle.store.specs.View.{view};
+//! The ticket of an open edit.
+ghost use Rattle.std.specs.Prelude.{◌≡◌};
+ghost use Rattle.rules.specs.Rules.{edit, read, write, lock, drop_edit};
+ghost use Rattle.store.specs.View.{Does, DoesAs};
 ghost use Rattle.tickets.specs.Given.{edit_ticket, locked_ticket, with_ticket, passed, closed};
 
 use crate::declined::Declined;
@@ -11,56 +11,52 @@ use cards::refusal::Refusal;
 use keepers::keeper::Keeper;
 use store::Store;
 
+/// The ticket of an open edit: what a host holds while it reads and writes. Letting it go leaves the edit open.
 #[derive(Drop)]
 pub struct EditTicket {
     pub(crate) seat: u16,
 }
 
-// Opens an edit on a seat, and answers its start.
+/// Opens an edit on a seat, and answers its start with its ticket. Declined as `Store::edit` is.
 pub fn edit<K: Keeper>(store: &mut Store<K>, seat: u16) -> Result<(u32, EditTicket), Refusal>
-    ensures state { view K.kept K.places store.new ≡ (edit (view K.kept K.places store.old) seat).0 }
-    ensures answer { result ≡ with_ticket (edit_ticket seat) (edit (view K.kept K.places store.old) seat).1 }
+    ensures call { DoesAs K.means (edit seat)
+        (with_ticket (edit_ticket seat)) store.old store.new result }
     ensures keeper { store.new.keeper ≡ store.old.keeper }
-    ensures same { is_ok result ≡ false → store.new ≡ store.old }
 {
     store.edit(seat).map(|start| (start, EditTicket { seat }))
 }
 
 impl EditTicket {
-    // Reads an entry's card.
+    /// Reads an entry's card, as `Store::read` does on its seat.
     pub fn read<K: Keeper>(&self, store: &mut Store<K>, entry: u16) -> Result<Card, Refusal>
-        ensures state { view K.kept K.places store.new ≡ (read (view K.kept K.places store.old) self.now.seat entry).0 }
-        ensures answer { result ≡ (read (view K.kept K.places store.old) self.now.seat entry).1 }
+        ensures call { Does K.means (read self.now.seat entry) store.old store.new result }
         ensures keeper { store.new.keeper ≡ store.old.keeper }
-        ensures same { is_ok result ≡ false → store.new ≡ store.old }
     {
         store.read(self.seat, entry)
     }
 
-    // Drafts a card for an entry.
+    /// Drafts a card for an entry, as `Store::write` does on its seat.
     pub fn write<K: Keeper>(
         &self,
         store: &mut Store<K>,
         entry: u16,
         card: Card,
     ) -> Result<(), Refusal>
-        ensures state { view K.kept K.places store.new ≡ (write (view K.kept K.places store.old) self.now.seat entry card).0 }
-        ensures answer { result ≡ (write (view K.kept K.places store.old) self.now.seat entry card).1 }
+        ensures call { Does K.means (write self.now.seat entry card) store.old store.new result }
         ensures keeper { store.new.keeper ≡ store.old.keeper }
-        ensures same { is_ok result ≡ false → store.new ≡ store.old }
     {
         store.write(self.seat, entry, card)
     }
 
-    // Locks the drafted entries, and answers how many.
+    /// Locks the drafted entries, as `Store::lock` does, and answers how many with the ticket of the locked edit. Declined by `Stage`, it
+    /// takes the ticket in; else it gives it back.
     pub fn lock<K: Keeper>(
         self,
         store: &mut Store<K>,
     ) -> Result<(u32, LockedTicket), Declined<EditTicket>>
-        ensures state { view K.kept K.places store.new ≡ (lock (view K.kept K.places store.old) self.seat).0 }
-        ensures answer { result ≡ passed self (locked_ticket self.seat) (lock (view K.kept K.places store.old) self.seat).1 }
+        ensures call { DoesAs K.means (lock self.seat) (passed self (locked_ticket self.seat))
+            store.old store.new result }
         ensures keeper { store.new.keeper ≡ store.old.keeper }
-        ensures same { is_ok result ≡ false → store.new ≡ store.old }
     {
         let seat = self.seat;
         store
@@ -69,12 +65,11 @@ impl EditTicket {
             .map_err(|why| Declined::by(why, self))
     }
 
-    // Gives the edit up.
+    /// Gives the edit up, as `Store::drop_edit` does. Declined by `Stage`, it takes the ticket in; else it gives it back.
     pub fn drop_edit<K: Keeper>(self, store: &mut Store<K>) -> Result<(), Declined<EditTicket>>
-        ensures state { view K.kept K.places store.new ≡ (dropping (view K.kept K.places store.old) self.seat).0 }
-        ensures answer { result ≡ closed self (dropping (view K.kept K.places store.old) self.seat).1 }
+        ensures call { DoesAs K.means (drop_edit self.seat)
+            (closed self) store.old store.new result }
         ensures keeper { store.new.keeper ≡ store.old.keeper }
-        ensures same { is_ok result ≡ false → store.new ≡ store.old }
     {
         store
             .drop_edit(self.seat)

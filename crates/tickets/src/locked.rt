@@ -1,7 +1,7 @@
-// The ticket of a locked edit. There is no writing through it: one writes before locking, or drops the edit and begins again.
-ghost use Rattle.std.specs.Prelude.{◌≡◌, false, is_ok};
-ghost use Rattle.rules.specs.Rules.{stamp, dropping};
-ghost use Rattle.store.specs.View.{view};
+//! The ticket of a locked edit. There is no writing through it: one writes before locking, or drops the edit and begins again.
+ghost use Rattle.std.specs.Prelude.{◌≡◌};
+ghost use Rattle.rules.specs.Rules.{stamp, drop_edit};
+ghost use Rattle.store.specs.View.{DoesAs};
 ghost use Rattle.tickets.specs.Given.{stamped_ticket, passed, closed};
 
 use crate::declined::Declined;
@@ -10,21 +10,22 @@ use cards::refusal::Refusal;
 use keepers::keeper::Keeper;
 use store::Store;
 
+/// The ticket of a locked edit. Letting it go leaves the edit open and its entries locked.
 #[derive(Drop)]
 pub struct LockedTicket {
     pub(crate) seat: u16,
 }
 
 impl LockedTicket {
-    // Takes the next time, and answers it.
+    /// Takes the next time, as `Store::stamp` does, and answers it with the ticket of the stamped edit. Declined by `Stage`, it takes the
+    /// ticket in; else it gives it back.
     pub fn stamp<K: Keeper>(
         self,
         store: &mut Store<K>,
     ) -> Result<(u32, StampedTicket), Declined<LockedTicket>>
-        ensures state { view K.kept K.places store.new ≡ (stamp (view K.kept K.places store.old) self.seat).0 }
-        ensures answer { result ≡ passed self (stamped_ticket self.seat) (stamp (view K.kept K.places store.old) self.seat).1 }
+        ensures call { DoesAs K.means (stamp self.seat) (passed self (stamped_ticket self.seat))
+            store.old store.new result }
         ensures keeper { store.new.keeper ≡ store.old.keeper }
-        ensures same { is_ok result ≡ false → store.new ≡ store.old }
     {
         let seat = self.seat;
         store
@@ -33,12 +34,12 @@ impl LockedTicket {
             .map_err(|why| Declined::by(why, self))
     }
 
-    // Gives the edit up, and releases its locks.
+    /// Gives the edit up, as `Store::drop_edit` does, and so releases its locks. Declined by `Stage`, it takes the ticket in; else it gives
+    /// it back.
     pub fn drop_edit<K: Keeper>(self, store: &mut Store<K>) -> Result<(), Declined<LockedTicket>>
-        ensures state { view K.kept K.places store.new ≡ (dropping (view K.kept K.places store.old) self.seat).0 }
-        ensures answer { result ≡ closed self (dropping (view K.kept K.places store.old) self.seat).1 }
+        ensures call { DoesAs K.means (drop_edit self.seat)
+            (closed self) store.old store.new result }
         ensures keeper { store.new.keeper ≡ store.old.keeper }
-        ensures same { is_ok result ≡ false → store.new ≡ store.old }
     {
         store
             .drop_edit(self.seat)

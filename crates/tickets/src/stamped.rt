@@ -1,10 +1,10 @@
-// The ticket of a stamped edit. It may not be let go before it is spent: while its edit is not settled, the ready point may stand
-// still for everyone.
-ghost use Rattle.std.specs.Prelude.{◌≡◌, false, is_ok, None};
+//! The ticket of a stamped edit. It may not be let go before it is spent: while its edit is not settled, the ready point may stand
+//! still for everyone.
+ghost use Rattle.std.specs.Prelude.{◌≡◌, None};
 ghost use Rattle.rules.specs.Rules.{put, settle};
 ghost use Rattle.rules.specs.State.{seat as seat-of};
-ghost use Rattle.store.specs.View.{view};
-ghost use Rattle.tickets.specs.Given.{named, is_stamped, declined, put_passed, closed};
+ghost use Rattle.store.specs.View.{DoesAs, view};
+ghost use Rattle.tickets.specs.Given.{is_stamped, declined, put_passed, closed};
 
 use crate::declined::{Declined, is_stage};
 use cards::refusal::Refusal;
@@ -12,7 +12,7 @@ use keepers::keeper::Keeper;
 use rules::stage::Stage;
 use store::Store;
 
-// Its seat is there until it is spent, which settling does, or a call that takes it in.
+/// The ticket of a stamped edit. Its seat is there until it is spent, which settling does, or a call that takes it in.
 pub struct StampedTicket {
     pub(crate) seat: Option<u16>,
 }
@@ -36,6 +36,8 @@ fn is_stamped(stage: Stage) -> bool
 }
 
 impl StampedTicket {
+    ghost use Rattle.tickets.specs.Given.{named};
+
     // The seat that it names. Nobody holds a spent one; it would name a seat that no store has.
     fn named(&self) -> u16
         ensures { result ≡ named self.now }
@@ -59,14 +61,15 @@ impl StampedTicket {
         Declined::Back { why, ticket: self }
     }
 
-    // Hands the next draft to the keeper, and answers how many are left, with the same ticket.
+    /// Hands the next draft to the keeper, as `Store::put` does, and answers how many are left, with the same ticket. Declined by `Stage` on
+    /// a seat that is not stamped, it takes the ticket in; else it gives it back.
     pub fn put<K: Keeper>(
         self,
         store: &mut Store<K>,
     ) -> Result<(u32, StampedTicket), Declined<StampedTicket>>
-        ensures state { view K.kept K.places store.new ≡ (put (view K.kept K.places store.old) (named self)).0 }
-        ensures answer { result ≡ put_passed self (is_stamped (seat-of (view K.kept K.places store.old) (named self)).stage) (put (view K.kept K.places store.old) (named self)).1 }
-        ensures same { is_ok result ≡ false → store.new ≡ store.old }
+        ensures call { DoesAs K.means (put (named self))
+            (put_passed self (is_stamped (seat-of (view K.means store.old) (named self)).stage))
+            store.old store.new result }
     {
         let seat = self.named();
         match store.put(seat) {
@@ -79,12 +82,11 @@ impl StampedTicket {
         }
     }
 
-    // Closes the edit, and answers its time.
+    /// Closes the edit, as `Store::settle` does, and answers its time. Declined by `Stage`, it takes the ticket in; else it gives it back.
     pub fn settle<K: Keeper>(self, store: &mut Store<K>) -> Result<u32, Declined<StampedTicket>>
-        ensures state { view K.kept K.places store.new ≡ (settle (view K.kept K.places store.old) (named self)).0 }
-        ensures answer { result ≡ closed self (settle (view K.kept K.places store.old) (named self)).1 }
+        ensures call { DoesAs K.means (settle (named self))
+            (closed self) store.old store.new result }
         ensures keeper { store.new.keeper ≡ store.old.keeper }
-        ensures same { is_ok result ≡ false → store.new ≡ store.old }
     {
         match store.settle(self.named()) {
             Ok(time) => {

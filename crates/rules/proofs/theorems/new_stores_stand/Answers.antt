@@ -1,4 +1,4 @@
-use Rattle.rules.proofs.Places.{new_stores_stand_lem}
+use Rattle.rules.proofs.NewStores.{new_stores_stand_lem}
 use Rattle.rules.proofs.theorems.new_stores_stand.Goals as goal
 
 pub returns : goal.returns

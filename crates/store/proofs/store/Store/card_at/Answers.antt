@@ -7,4 +7,4 @@ use Rattle.store.proofs.store.Store.card_at.Goals as goal
 pub returns : goal.returns
 returns g c =
     let is : c.map_or.result ≡ option_map_or (λ v. v.card) c.find.result blank_card = search rules in
-    is ∙ latest_found (g.K.Keeper.kept c.args.self.now.keeper) c.args.entry c.args.time c.find.result c.find.ensures
+    is ∙ latest_found (g.K.Keeper.means c.args.self.now.keeper).kept c.args.entry c.args.time c.find.result c.find.ensures

@@ -5,4 +5,4 @@ use Rattle.store.proofs.store.Store.next_time.Goals as goal
 pub returns : goal.returns
 returns g c =
     let kept : c.filter.result ≡ up_to c.args.up_to c.after.result = search rules in
-    kept ∙ sym (next_is (g.K.Keeper.kept c.args.self.now.keeper) c.args.entry c.args.time c.args.up_to c.after.result c.after.ensures)
+    kept ∙ sym (next_is (g.K.Keeper.means c.args.self.now.keeper).kept c.args.entry c.args.time c.args.up_to c.after.result c.after.ensures)

@@ -1,6 +1,0 @@
--- The ticket goes on naming a seat of the store.
-use Rattle.booking.specs.Left.{Seated}
-use Rattle.booking.proofs.clerk.Clerk.put_all.Given as goal
-
-abbrev pub invariant-loop : goal.invariant-loop
-invariant-loop g l = Seated l.ticket

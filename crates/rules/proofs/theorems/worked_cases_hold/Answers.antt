@@ -1,7 +1,0 @@
-use Rattle.std.proofs.Common.{refl}
-use Rattle.packed.specs.Packed.{standing, packed}
-use Rattle.rules.proofs.theorems.worked_cases_hold.Goals as goal
-
-pub returns : goal.returns
-unfolding standing packed
-returns c = (refl, (refl, (refl, (refl, (refl, (refl, (refl, (refl, (refl, (refl, (refl, (refl, (refl, (refl, (refl, tt)))))))))))))))

@@ -1,4 +1,0 @@
-pub mod ByNumber
-pub mod Shorts
-pub mod Singles
-pub mod Sums

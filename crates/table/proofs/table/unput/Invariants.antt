@@ -1,0 +1,11 @@
+use Rattle.std.proofs.Common.{◌≡◌, ◌*◌, ◌≤◌, take}
+use Rattle.rules.specs.State.{unput_all}
+use Rattle.rules.specs.declared.limits.TheConstants.{MOST_DRAFTS}
+use Rattle.table.proofs.table.unput.Given as goal
+
+-- the drafts of the seats so far
+abbrev pub invariant-loop-seat : goal.invariant-loop-seat
+invariant-loop-seat l = record {
+  count : l.count ≡ unput_all (take l.seat-index l.seats);
+  few : l.count ≤ l.seat-index * MOST_DRAFTS;
+}
