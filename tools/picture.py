@@ -73,7 +73,7 @@ def seats():
 
 
 def legend():
-    yield text(20, 440, "The floor is the least of the ready point and the starts of the open proofs. "
+    yield text(20, 440, "The floor is the earliest start of an open proof, or else the ready point. "
                "A version may be collected where the next one", size=12, fill=SOFT)
     yield text(20, 457, "is of a time up to the floor: no proof, open or to come, can ask for it. "
                "Here that is the version of 1, since 3 is up to 4.", size=12, fill=SOFT)
