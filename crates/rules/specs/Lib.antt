@@ -6,3 +6,4 @@ pub mod Rules
 pub mod Runs
 pub mod Seat
 pub mod State
+pub mod Words

@@ -1,6 +1,6 @@
 -- A new store, by the sizes asked for and what its keeper means.
-use Rattle.std.specs.Prelude.{◌≡◌, ◌≤◌, Bool, ◌&&◌, replicate, ◌==◌, nat_lt, nat_le, if◌then◌else◌}
-use Rattle.cards.specs.Holding.{Holding, Lawful}
+use Rattle.std.specs.Prelude.{◌≡◌, ℕ, ◌≤◌, None, Bool, ◌&&◌, replicate, ◌==◌, nat_lt, nat_le, if◌then◌else◌}
+use Rattle.cards.specs.Holding.{Holding, Lawful, holding}
 use Rattle.cards.specs.Versions.{Empty, held_in}
 use Rattle.cards.specs.declared.entry.TheConstants.{ENTRIES}
 use Rattle.rules.specs.Rows.{free_row}
@@ -41,3 +41,11 @@ pub record Fresh (s : State) : Type 0 where
 -- a new store over an empty keeper stands so, whatever sizes are asked for
 abbrev pub NewStoresStand : Type 0
 NewStoresStand = (z : Sizes) (h : Holding) → Empty h.kept → Lawful h → Fresh (new_store z h)
+
+-- a new store over a keeper of so many places, one version a place, that holds none
+abbrev pub opened : Sizes → ℕ → State
+opened z places = unused z (holding places (λ n t. None))
+
+-- and such stores there are: it stands so, whatever its sizes up to 1,024 entries and its places
+abbrev pub OpenedStoresStand : Type 0
+OpenedStoresStand = (z : Sizes) (places : ℕ) → entries z ≤ ENTRIES → Fresh (opened z places)
