@@ -1,8 +1,9 @@
 -- A version taken out of its chain, and its place put before the free ones.
-use Rattle.std.proofs.Common.{◌≡◌, ℕ, ◌+◌, ◌-◌, ◌<◌, true, ◌≢◌, ◌⊎◌, List, length, get_or, set, is_some, Some, None, Option, sym, refl, ap, ap₂, ◌∙◌, subst, inl, inr, arith}
-use Rattle.std.proofs.lemmas.List.{get_or-set_same, get_or-set_other, length-set}
+use Rattle.std.proofs.Common.{◌≡◌, ℕ, ◌+◌, ◌-◌, ◌<◌, true, ◌≢◌, ◌⊎◌, List, length, get_or, drop, set, is_some, Some, None, Option, sym, refl, ap, ap₂, ◌∙◌, subst, inl, inr, arith}
+use Rattle.std.proofs.lemmas.List.{get_or-set_same, get_or-set_other, length-set, drop-set-lt}
 use Rattle.std.proofs.lemmas.Bool.{cases_eq}
 use Rattle.cards.specs.Holding.{holding}
+use Rattle.keepers.specs.declared.memory.TheConstants.{MOST_PLACES}
 use Rattle.keepers.specs.Kept.{removed}
 use Rattle.cards.specs.Versions.{without, held_in}
 use Rattle.cards.specs.declared.entry.TheConstants.{ENTRIES}
@@ -10,13 +11,14 @@ use Rattle.cards.proofs.Counts.{held_less, without_here, without_other, same_set
 use Rattle.keepers.specs.SetOf.{holds}
 use Rattle.keepers.specs.declared.version.Version.{Version}
 use Rattle.keepers.proofs.SetsOf.{set_of-alike, holds_not}
-use Rattle.linked.specs.Chain.{empty_place, free_place, version_of, next_of, below_of, led_place, kept_in, time_at, entry_at, next_at, below_at, time_or_zero, Free, LeadsTo, LeadsFree, Walked, Chained, Freed, Sound, led_places, led_heads}
+use Rattle.linked.specs.Chain.{empty_place, free_place, version_of, next_of, below_of, led_place, used_places, kept_in, time_at, entry_at, next_at, below_at, time_or_zero, Free, LeadsTo, LeadsFree, Walked, Chained, Freed, Sound, led_places, led_heads}
 use Rattle.linked.proofs.Held.{none_kept}
-use Rattle.linked.specs.View.{linked_kept, linked_means}
+use Rattle.linked.specs.View.{linked_memory, linked_used, linked_rest, linked_kept, linked_places, linked_means}
 use Rattle.linked.specs.declared.keeper.Linked.{Linked}
 use Rattle.linked.specs.declared.place.Place.{Place}
 use Rattle.linked.proofs.Chains.{in_places, kept_at}
-use Rattle.linked.proofs.Edits.{written, free_time, carried}
+use Rattle.linked.proofs.Edits.{written, free_time, carried, used_set, used_led, led_len, led_rest}
+use Rattle.linked.proofs.Facts.{few}
 
 -- with the version in p less, one less is held
 pub less_by : {ps : List Place} {hs : List (Option ℕ)} {f : Option ℕ} {n h : ℕ} → Sound ps hs f n h → (p : ℕ) → 0 < time_at ps p → h ≡ held_in (without (kept_in ps) (entry_at ps p) (time_at ps p)) + 1
@@ -216,20 +218,34 @@ module _ {ps qs : List Place} {hs hs' : List (Option ℕ)} {f : Option ℕ} {n h
 
 -- ---- the same in a keeper: x is the place p as it was read, which a walk has come to
 
-module _ (k : Linked) {e t : ℕ} {b a : Option ℕ} (w : Walked k.places.now k.heads e t b a) {p : ℕ} (is : a ≡ Some p) {x : Place} (read : x ≡ get_or k.places.now p empty_place) where
-  time_is : (version_of x).time ≡ t → time_at k.places.now p ≡ t
+module _ (k : Linked) {e t : ℕ} {b a : Option ℕ} (w : Walked (linked_used k) k.heads e t b a) {p : ℕ} (is : a ≡ Some p) {x : Place} (read : x ≡ get_or (linked_used k) p empty_place) where
+  time_is : (version_of x).time ≡ t → time_at (linked_used k) p ≡ t
   time_is at = ap (λ (y : Place). (version_of y).time) (sym read) ∙ at
+
+  -- in qs, what led to p leads on, and so does what led to it in the places that are used
+  pub out_used : {qs : List Place} → qs ≡ led_places (linked_memory k) b (next_of x) → used_places qs ≡ led_places (linked_used k) b (next_of x)
+  out_used is-led = rw is-led (used_led (linked_memory k) b (next_of x) (λ q so. in_places (linked_used k) q (w.later q so).0.0))
+
+  -- and y is written there
+  pub out_set : {qs : List Place} → qs ≡ led_places (linked_memory k) b (next_of x) → (y : Place) → used_places (set qs p y) ≡ set (used_places qs) p y
+  out_set {qs} is-led y = used_set qs p y (rw (out_used is-led) (omega (arith, led_len (linked_used k) b (next_of x), in_places (linked_used k) p (w.of p is).0)))
+
+  -- nothing is written behind them
+  pub out_rest : {qs : List Place} → qs ≡ led_places (linked_memory k) b (next_of x) → (y : Place) → drop MOST_PLACES (set qs p y) ≡ linked_rest k
+  out_rest {qs} is-led y =
+      drop-set-lt MOST_PLACES qs p y (omega (arith, few k, in_places (linked_used k) p (w.of p is).0))
+      ∙ rw is-led (led_rest (linked_memory k) b (next_of x) (λ q so. omega (arith, few k, in_places (linked_used k) q (w.later q so).0.0)))
 
   pub out_found : (version_of x).time ≡ t → is_some (linked_kept k e t) ≡ true
   out_found at = subst (λ (u : ℕ). is_some (linked_kept k e u) ≡ true) (time_is at) (ap is_some (kept_at k.sound.chained e p (w.of p is)))
 
   -- in qs, what led to p leads on
-  module _ {qs : List Place} {gs : List (Option ℕ)} (le : e < ENTRIES) (qs-is : qs ≡ led_places k.places.now b (next_of x)) (gs-is : gs ≡ led_heads k.heads e b (next_of x)) where
-    past-p : LedPast k.places.now qs k.heads gs p
-    past-p = rw (qs-is, gs-is, read) (past k.sound.chained p le b (subst (Walked k.places.now k.heads e t b) is w))
+  module _ {qs : List Place} {gs : List (Option ℕ)} (le : e < ENTRIES) (qs-is : qs ≡ led_places (linked_used k) b (next_of x)) (gs-is : gs ≡ led_heads k.heads e b (next_of x)) where
+    past-p : LedPast (linked_used k) qs k.heads gs p
+    past-p = rw (qs-is, gs-is, read) (past k.sound.chained p le b (subst (Walked (linked_used k) k.heads e t b) is w))
 
-    pub out_means : (version_of x).time ≡ t → holding (length (set qs p (free_place k.free.first k.free.count))) (kept_in (set qs p (free_place k.free.first k.free.count))) ≡ removed (linked_means k) e t
-    out_means at = ap₂ holding (length-set qs p _ ∙ past-p.len) (cut_kept k.sound p (w.of p is).0 past-p ∙ ap₂ (λ (d u : ℕ). without (linked_kept k) d u) (w.of p is).1 (time_is at))
+    pub out_means : (version_of x).time ≡ t → holding (linked_places k) (kept_in (set qs p (free_place k.free.first k.free.count))) ≡ removed (linked_means k) e t
+    out_means at = ap (holding (linked_places k)) (cut_kept k.sound p (w.of p is).0 past-p ∙ ap₂ (λ (d u : ℕ). without (linked_kept k) d u) (w.of p is).1 (time_is at))
 
     pub out_sound : Sound (set qs p (free_place k.free.first k.free.count)) gs (Some p) (k.free.count + 1) (k.held - 1)
     out_sound = cut_sound k.sound p (w.of p is).0 past-p

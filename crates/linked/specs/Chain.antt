@@ -1,7 +1,8 @@
 -- Places that are chained: the versions of each entry newest first, and the free places in a chain of their own.
-use Rattle.std.specs.Prelude.{◌≡◌, ℕ, zero, suc, ◌+◌, ◌-◌, ◌^◌, ◌<◌, ◌≤◌, List, length, Some, None, Option, slice_index_or, slice_set}
+use Rattle.std.specs.Prelude.{◌≡◌, ℕ, zero, suc, ◌+◌, ◌-◌, ◌^◌, ◌<◌, ◌≤◌, List, length, take, Some, None, Option, slice_index_or, slice_set}
 use Rattle.cards.specs.Versions.{Kept, held_in}
 use Rattle.cards.specs.declared.entry.TheConstants.{ENTRIES}
+use Rattle.keepers.specs.Memory.{used_of}
 use Rattle.keepers.specs.SetOf.{no_version, set_of, Of}
 use Rattle.linked.specs.declared.place.Place.{Place}
 use Rattle.linked.specs.declared.place.Link.{Link}
@@ -39,6 +40,10 @@ abbrev pub led_place : Place → Option ℕ → Place
 led_place p n = elim p.content as (λ _. Place) [ content.Held l ↦ held_place (record { version = l.version; older = n }) | content.Free _ ↦ p ]
 
 -- ---- the places together
+
+-- the places of the memory that are used: the first 65,536 at most
+abbrev pub used_places : List Place → List Place
+used_places ps = take (used_of (length ps)) ps
 
 -- what the places hold together
 abbrev pub kept_in : List Place → Kept

@@ -5,6 +5,7 @@ use Rattle.std.proofs.lemmas.List.Elements.{All-from_get_or, All-push}
 use Rattle.std.proofs.lemmas.List.Quantifiers.{all_pairs_push}
 use Rattle.std.proofs.lemmas.List.{length-set, take_more_set}
 use Rattle.cards.specs.Versions.{with_card, newest_time}
+use Rattle.keepers.specs.Memory.{used_of}
 use Rattle.keepers.specs.SetOf.{no_version}
 use Rattle.keepers.specs.declared.version.Version.{Version}
 use Rattle.cards.proofs.Counts.{same_set, with_here, with_other, held_more, held_none}
@@ -18,6 +19,7 @@ use Rattle.roll.proofs.Meanings.{kept_at}
 pub rolled_none : (xs : List Version) → Rolled xs 0
 rolled_none xs = record {
   within = omega arith;
+  few = omega arith;
   arrived = record { each = λ p d l. absurd (omega arith); rising = λ i j d lt l. absurd (omega arith) };
   counted = sym (held_none _ (λ e t. refl));
 }
@@ -43,12 +45,13 @@ module _ (vs : List Version) (a : Arrived vs) (v : Version) (proper : Proper v) 
       (λ e t ne. rw (with_other m v.entry v.time v.card e t ne, set_of-append (λ w. w) vs (v ∷ []) e t, holds_not v e t (λ _ x y. ne (sym x) (sym y))) (option_or_none (m e t)))
 
 -- a roll with a place to spare, where it arrives
-pub rolled_more : (xs : List Version) (held : ℕ) (v : Version) → Rolled xs held → held < length xs → Proper v → newest_time (kept_in (take held xs)) v.entry < v.time → Rolled (set xs held v) (held + 1)
+pub rolled_more : (xs : List Version) (held : ℕ) (v : Version) → Rolled xs held → held < used_of (length xs) → Proper v → newest_time (kept_in (take held xs)) v.entry < v.time → Rolled (set xs held v) (held + 1)
 rolled_more xs held v s spare proper late =
     let vs = take held xs in
-    let front = take_more_set xs held v spare in
+    let front = take_more_set xs held v (omega (arith, spare)) in
     record {
-      within = simp length-set (omega arith);
+      within = simp length-set (omega (arith, spare));
+      few = omega (arith, spare);
       arrived = rw front (arrived_more vs s.arrived v proper late);
       counted = rw (front, kept_more vs s.arrived v proper late) (omega (arith, s.counted, held_more (kept_in vs) v.entry v.time v.card proper.0 proper.2 (fresh vs s.arrived v proper late)));
     }

@@ -58,6 +58,7 @@ rolled_less xs held p s l =
     let proper = s.arrived.each p no_version inn in
     let front = front_closed xs p held l s.within in
     record {
+      few = omega (arith, s.few);
       within = omega (arith, s.within, length-remove vs p inn, length-take-le held xs s.within, ap length (gap_closed xs p held l), length-append (remove vs p) (drop (held - 1) xs));
       arrived = rw front (arrived_less vs s.arrived p inn);
       counted = rw (front, kept_less vs s.arrived p inn) (omega (arith, s.counted, held_less (kept_in vs) v.entry v.time v.card proper.0 proper.2 (kept_at vs s.arrived p inn)));

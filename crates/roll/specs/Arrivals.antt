@@ -3,6 +3,7 @@ use Rattle.std.specs.Prelude.{◌≡◌, ℕ, ◌^◌, ◌<◌, ◌≤◌, List,
 use Rattle.std.specs.List.{All, AllPairs}
 use Rattle.cards.specs.Versions.{Kept, held_in}
 use Rattle.cards.specs.declared.entry.TheConstants.{ENTRIES}
+use Rattle.keepers.specs.declared.memory.TheConstants.{MOST_PLACES}
 use Rattle.keepers.specs.SetOf.{set_of}
 use Rattle.keepers.specs.declared.version.Version.{Version}
 
@@ -23,8 +24,9 @@ pub record Arrived (vs : List Version) : Type 0 where
   pub each : All Proper vs
   pub rising : AllPairs Rising vs
 
--- the first places of xs, `held` of them, hold a version each
+-- the first places of xs, `held` of them, hold a version each; they are 65,536 at most
 pub record Rolled (xs : List Version) (held : ℕ) : Type 0 where
   pub within : held ≤ length xs
+  pub few : held ≤ MOST_PLACES
   pub arrived : Arrived (take held xs)
   pub counted : held ≡ held_in (kept_in (take held xs))

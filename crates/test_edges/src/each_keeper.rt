@@ -120,12 +120,16 @@ fn memory_lent_twice(rt: HostRuntime) {
 
 #[test]
 fn more_memory_than_is_used(rt: HostRuntime) -> Result<(), Fail> {
-    assert_eq!(rt; check_memory(MOST_PLACES), Ok(()));
-    assert_eq!(rt; check_memory(MOST_PLACES + 1), Err(Refusal::Sizes));
+    assert_eq!(rt; check_memory(65536), Ok(()));
+    assert_eq!(rt; check_memory(65537), Err(Refusal::Sizes));
     let mut memory = vec![in rt.alloc(); Place::empty(); MOST_PLACES + 1]?;
-    assert_eq!(rt; Linked::new(memory.as_mut_slice()).spare(), 65536);
+    let linked = Linked::new(memory.as_mut_slice());
+    assert_eq!(rt; linked.spare(), 65536);
+    assert_eq!(rt; linked.into_memory().len(), 65537);
     let mut memory = vec![in rt.alloc(); version(0, 7); MOST_PLACES + 1]?;
-    assert_eq!(rt; Roll::new(memory.as_mut_slice()).spare(), 65536);
+    let roll = Roll::new(memory.as_mut_slice());
+    assert_eq!(rt; roll.spare(), 65536);
+    assert_eq!(rt; roll.into_memory().len(), 65537);
     Ok(())
 }
 

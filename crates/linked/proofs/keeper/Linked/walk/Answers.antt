@@ -7,10 +7,10 @@ pub loop-reached-init : goal.loop-reached-init
 loop-reached-init c = rw c.from.ensures (begun c.args.self.now.sound.chained _ _ c.args.entry.below)
 
 pub link_in-link-requires : goal.link_in-link-requires
-link_in-link-requires c = (c.loop-reached.invariant.of _ c.in-Some.is).0
+link_in-link-requires c = rw c.used-places.ensures (c.loop-reached.invariant.of _ c.in-Some.is).0
 
 pub loop-reached-smaller : goal.loop-reached-smaller
-loop-reached-smaller c = falls c.args.self.now.sound.chained c.loop-reached.invariant _ _ c.in-Some.is c.link_in-link.ensures
+loop-reached-smaller c = falls c.args.self.now.sound.chained c.loop-reached.invariant _ _ c.in-Some.is (rw c.used-places.ensures at c.link_in-link.ensures)
 
 pub loop-reached-preserved : goal.loop-reached-preserved
-loop-reached-preserved c = step c.args.self.now.sound.chained c.loop-reached.invariant _ _ c.in-Some.is c.link_in-link.ensures (omega arith)
+loop-reached-preserved c = step c.args.self.now.sound.chained c.loop-reached.invariant _ _ c.in-Some.is (rw c.used-places.ensures at c.link_in-link.ensures) (omega arith)

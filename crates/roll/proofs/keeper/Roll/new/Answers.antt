@@ -1,5 +1,5 @@
 use Rattle.roll.proofs.Adds.{rolled_none}
 use Rattle.roll.proofs.keeper.Roll.new.Goals as goal
 
-pub invariant_of-result-clause-sound : goal.invariant_of-result-clause-sound
-invariant_of-result-clause-sound c = rolled_none _
+pub invariant_of-result : goal.invariant_of-result
+invariant_of-result c = record { sound = rolled_none _ }
