@@ -4,11 +4,12 @@ ghost use Rattle.linked.specs.Chain.{empty_place, held_place, free_place, place_
 
 use keepers::version::Version;
 
-// A version, and the place of its entry's next older one.
+// A version, and the place of its entry's next older one. The version comes last: so fewer places have what is written of it lie across two
+// pages of memory, which is slow.
 #[derive(Clone, Copy)]
 pub(crate) struct Link {
-    pub(crate) version: Version,
     pub(crate) older: Option<u16>,
+    pub(crate) version: Version,
 }
 
 // Free places: the first of them, and how many there are.
